@@ -1,0 +1,11 @@
+pub mod Complete
+pub mod Decimals
+pub mod Fronts
+pub mod Marks
+pub mod Runs
+pub mod Sound
+pub mod Steps
+pub mod Survey
+pub mod Unique
+pub mod Walk
+pub mod Words

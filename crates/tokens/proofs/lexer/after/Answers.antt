@@ -1,0 +1,11 @@
+use mathlib.Core.Path.{sym}
+use native.Mathlib.Omega.{arith}
+use Rattle.std.proofs.shelf.Lists.{drop-all}
+use Rattle.std.proofs.shelf.Parts.{between-to-end}
+use Rattle.tokens.proofs.lexer.after.Needs as need
+
+pub returns-then-n-bytes : need.returns-then-n-bytes
+returns-then-n-bytes c = between-to-end (c .args .bytes .now) (c .args .n) _ (omega arith)
+
+pub returns-else-n-bytes : need.returns-else-n-bytes
+returns-else-n-bytes c = sym (drop-all (c .args .n) (c .args .bytes .now) (omega arith))
