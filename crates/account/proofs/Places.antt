@@ -18,8 +18,7 @@ back i = omega arith
 -- behind a line feed a new line begins
 pub behind-feed : (text : List ℕ) (i : ℕ) → i < length text → getD text i 0 ≡ 10 → (lineOf text (i + 1) ≡ lineOf text i + 1) × (columnOf text (i + 1) ≡ 0)
 behind-feed text i h e =
-    let feed : isLineFeed (getD text i 0) ≡ true = eq-eqb (getD text i 0) 10 e in
-    (
+    let feed : isLineFeed (getD text i 0) ≡ true = eq-eqb (getD text i 0) 10 e in (
       countBy-more-yes isLineFeed text i 0 h feed,
       ending-take-no staysOnLine text (i + 1) 0 (omega arith) (omega arith) (ap (λ k. staysOnLine (getD text k 0)) (back i) ∙ ap not feed),
     )

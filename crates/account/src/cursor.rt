@@ -30,14 +30,22 @@ impl<'a> Cursor<'a> {
     pub fn new(text: &'a [u8]) -> Cursor<'a>
         ensures { λ r. ⌜ (r .text ≡ text .entry) × (r .place ≡ 0) ⌝ }
     {
-        Cursor { text, place: 0, line: 0, column: 0 }
+        Cursor {
+            text,
+            place: 0,
+            line: 0,
+            column: 0,
+        }
     }
 
     // The line and the column of the place. Constant time.
     pub fn position(self) -> Position
         ensures { λ r. ⌜ (r .line ≡ lineOf (now (self .entry .text)) (self .entry .place)) × (r .column ≡ columnOf (now (self .entry .text)) (self .entry .place)) ⌝ }
     {
-        Position { line: self.line, column: self.column }
+        Position {
+            line: self.line,
+            column: self.column,
+        }
     }
 
     // The same text at a later place; at its end where the place is behind it, and where it is where the place is before it.
@@ -58,7 +66,12 @@ impl<'a> Cursor<'a> {
             }
             at += 1;
         }
-        Cursor { text, place: at, line, column }
+        Cursor {
+            text,
+            place: at,
+            line,
+            column,
+        }
     }
 
     // The line that the place stands in, without its line feed. Linear in what is left of the line.

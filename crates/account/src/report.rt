@@ -64,8 +64,17 @@ fn print_token(rt: &impl Print, at: Cursor<'_>, found: Placed<'_>, text: &[u8]) 
 }
 
 fn print_counts(rt: &impl Print, counts: Counts) -> io::Result<()> {
-    let Counts { marks, keywords, lowers, uppers, integers } = counts;
-    println!(rt, "  {marks} marks, {keywords} keywords, {lowers} lower names, {uppers} upper names, {integers} integers")
+    let Counts {
+        marks,
+        keywords,
+        lowers,
+        uppers,
+        integers,
+    } = counts;
+    println!(
+        rt,
+        "  {marks} marks, {keywords} keywords, {lowers} lower names, {uppers} upper names, {integers} integers"
+    )
 }
 
 // A fault as compilers show it: file, line and column with a sentence, the line, and a caret under the place.
@@ -105,7 +114,10 @@ fn print_tokens(rt: &impl Print, text: &[u8]) -> io::Result<()> {
 pub fn print_account(rt: &impl Print, file: &str, text: &[u8]) -> io::Result<()> {
     let length = text.len();
     if length > TEXT_LIMIT {
-        return println!(rt, "{file}: {length} bytes, and a unit has at most {TEXT_LIMIT}");
+        return println!(
+            rt,
+            "{file}: {length} bytes, and a unit has at most {TEXT_LIMIT}"
+        );
     }
     match count_tokens(text) {
         Ok(counts) => {

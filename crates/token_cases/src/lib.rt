@@ -16,7 +16,13 @@ mod tests {
     // How many tokens a text has, if it lexes.
     fn total(text: &[u8]) -> Option<usize> {
         match count_tokens(text) {
-            Ok(c) => Some(c.marks.saturating_add(c.keywords).saturating_add(c.lowers).saturating_add(c.uppers).saturating_add(c.integers)),
+            Ok(c) => Some(
+                c.marks
+                    .saturating_add(c.keywords)
+                    .saturating_add(c.lowers)
+                    .saturating_add(c.uppers)
+                    .saturating_add(c.integers),
+            ),
             Err(_) => None,
         }
     }

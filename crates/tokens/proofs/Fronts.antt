@@ -57,8 +57,7 @@ empty-front (b ∷ bs) h = absurd (omega arith)
 pub keyword-front : (bs name rest : List ℕ) (n : ℕ) (k : Keyword) → n ≡ leading isNameByte bs → n ≤ length bs → n ≤ 16 → name ≡ take n bs → rest ≡ drop n bs → keywordOf name ≡ Some k → (nameFront (leading isNameByte bs) bs ≡ piece (keyword k)) × (rest ≡ drop (length (keywordBytes k)) bs)
 keyword-front bs name rest n k run inside short front back told =
     let long : length (keywordBytes k) ≡ n = ap length (keyword-spells name k told ∙ front) ∙ length-take-le n bs inside in
-    let same : keywordOf (take n bs) ≡ Some k = ap keywordOf (sym front) ∙ told in
-    (
+    let same : keywordOf (take n bs) ≡ Some k = ap keywordOf (sym front) ∙ told in (
       ap (λ m. nameFront m bs) (sym run) ∙ rw (le-leb n 16 short, same) refl,
       back ∙ ap (λ m. drop m bs) (sym long),
     )

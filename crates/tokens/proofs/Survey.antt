@@ -25,8 +25,7 @@ room text from place end p counts s e =
 
 pub again : (text : List ℕ) (from place end : ℕ) (p : Piece) (counts : Counts) → Sofar text from counts → nextToken text from ≡ token p place end → Sofar text end (more counts p)
 again text from place end p counts s e =
-    let step = advance text from place end p e in
-    (
+    let step = advance text from place end p e in (
       s .0 ++ (step .gaps ++ p ∷ []),
       cuts-append (s .0) (step .gaps ++ p ∷ []) text (drop from text) (drop end text) (s .1) (step .cuts),
       ap (λ c. more c p) (s .2) ∙ sym (tally-token (s .0) (step .gaps) p (step .blanks)),
@@ -35,8 +34,7 @@ again text from place end p counts s e =
 pub whole : (text : List ℕ) (from : ℕ) (counts : Counts) → Sofar text from counts → nextToken text from ≡ atEnd → (ps : List Piece) × DividesOnlyAs text ps × (counts ≡ tally ps)
 whole text from counts s e =
     let last = finish text from e in
-    let all = cuts-append (s .0) (last .0) text (drop from text) [] (s .1) (last .2) in
-    (
+    let all = cuts-append (s .0) (last .0) text (drop from text) [] (s .1) (last .2) in (
       s .0 ++ last .0,
       (all, λ qs other. cut-once qs (s .0 ++ last .0) text [] [] other all empty-begins-none empty-begins-none .0),
       s .2 ∙ sym (tally-blanks (s .0) (last .0) (last .1)),
@@ -47,8 +45,7 @@ stopped text from place r counts s e =
     let stop = halt text from place r e in
     let bs = drop place text in
     let none-here = none-begins bs r (ap (λ t. cond t (piece (blank (getD bs 0 0))) (tokenFront bs)) (stop .solid) ∙ stop .refused) in
-    let all = cuts-append (s .0) (stop .gaps) text (drop from text) (drop place text) (s .1) (stop .cuts) in
-    (
+    let all = cuts-append (s .0) (stop .gaps) text (drop from text) (drop place text) (s .1) (stop .cuts) in (
       s .0 ++ stop .gaps,
       record {
         before = all;

@@ -255,12 +255,15 @@ why bs r e = go (isLetter (getD bs 0 0)) (isDigit (getD bs 0 0)) refl refl e
     name : isLetter (getD bs 0 0) ≡ true → (t : Bool) → leb (leading isNameByte bs) 16 ≡ t → cond t (piece (word (keywordOf (take (leading isNameByte bs) bs)) (take (leading isNameByte bs) bs))) (none LongName) ≡ none r → Why r bs
     name letter true is e = absurd (let z : _≡_ {A = ℕ} 0 1 = cc in omega arith)
     name letter false is e = let same : LongName ≡ r = cc in subst (λ x. Why x bs) same (letter, leb-false (leading isNameByte bs) 16 is)
+
     integers : isDigit (getD bs 0 0) ≡ true → (t : Bool) → leb (leading isDigit bs) 9 ≡ t → cond t (piece (integer (take (leading isDigit bs) bs))) (none LongInteger) ≡ none r → Why r bs
     integers digit true is e = absurd (let z : _≡_ {A = ℕ} 0 1 = cc in omega arith)
     integers digit false is e = let same : LongInteger ≡ r = cc in subst (λ x. Why x bs) same (digit, leb-false (leading isDigit bs) 9 is)
+
     sign : isLetter (getD bs 0 0) ≡ false → isDigit (getD bs 0 0) ≡ false → (o : Option Mark) → markFront o ≡ none r → Why r bs
     sign letter digit (Some m) e = absurd (let z : _≡_ {A = ℕ} 0 1 = cc in omega arith)
     sign letter digit None e = let same : Byte ≡ r = cc in subst (λ x. Why x bs) same (letter, digit)
+
     go : (l d : Bool) → isLetter (getD bs 0 0) ≡ l → isDigit (getD bs 0 0) ≡ d → cond l (nameFront (leading isNameByte bs) bs) (cond d (integerFront (leading isDigit bs) bs) (markFront (markOf bs))) ≡ none r → Why r bs
     go true d letter digit e = name letter (leb (leading isNameByte bs) 16) refl e
     go false true letter digit e = integers digit (leb (leading isDigit bs) 9) refl e

@@ -6,7 +6,7 @@ ghost use Rattle.std.specs.shelf.Lists.{leading};
 ghost use Rattle.tokens.specs.Bytes.{class, goesOn};
 
 // The kinds of bytes that the lexer tells apart.
-#[derive(Clone, Copy, PartialEq, Eq, Debug)]
+#[derive(Clone, Copy)]
 pub enum Class {
     Blank,
     Lower,
@@ -31,7 +31,7 @@ pub fn class_of(b: u8) -> Class
 }
 
 // The runs of bytes that go as far as they can.
-#[derive(Clone, Copy, PartialEq, Eq, Debug)]
+#[derive(Clone, Copy)]
 pub enum Run {
     Blanks,
     Name,
@@ -45,7 +45,10 @@ impl Run {
     {
         match self {
             Run::Blanks => matches!(class_of(b), Class::Blank),
-            Run::Name => matches!(class_of(b), Class::Lower | Class::Upper | Class::Digit | Class::Underscore),
+            Run::Name => matches!(
+                class_of(b),
+                Class::Lower | Class::Upper | Class::Digit | Class::Underscore
+            ),
             Run::Digits => matches!(class_of(b), Class::Digit),
         }
     }

@@ -40,7 +40,13 @@ impl Counts {
 pub fn count_tokens(text: &[u8]) -> Result<Counts, LexFault>
     ensures { λ r. ⌜ Surveyed (now (text .entry)) r ⌝ }
 {
-    let mut counts = Counts { marks: 0, keywords: 0, lowers: 0, uppers: 0, integers: 0 };
+    let mut counts = Counts {
+        marks: 0,
+        keywords: 0,
+        lowers: 0,
+        uppers: 0,
+        integers: 0,
+    };
     let mut from = 0;
     while let Some(found) = next(text, from)? {
         counts = counts.and(found.token);

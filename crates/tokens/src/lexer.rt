@@ -10,7 +10,6 @@ use super::bytes::Run;
 use super::bytes::class_of;
 use super::token::Mark;
 use super::token::Token;
-use super::token::TokenDebug;
 use super::token::keyword_of;
 
 // The longest name, in bytes.
@@ -34,20 +33,19 @@ pub enum Reason {
 }
 
 // A place of a text where no token stands: its first byte, counted from 0.
-#[derive(Clone, Copy, PartialEq, Eq, Debug)]
+#[derive(Clone, Copy)]
 pub struct LexFault {
     pub reason: Reason,
     pub place: usize,
 }
 
 // A token with the place of its first byte, and the place right behind its last one.
-#[derive(Clone, Copy, Debug)]
+#[derive(Clone, Copy)]
 pub struct Placed<'a> {
     pub token: Token<'a>,
     pub place: usize,
     pub end: usize,
 }
-
 
 impl LexFault {
     // The number of the question that such a text answers with no. Constant time.
@@ -187,7 +185,11 @@ pub fn next(text: &[u8], from: usize) -> Result<Option<Placed<'_>>, LexFault>
     }
     let place = from + blanks;
     match token_at(bytes) {
-        Ok((token, rest)) => Ok(Some(Placed { token, place, end: place + (bytes.len() - rest.len()) })),
+        Ok((token, rest)) => Ok(Some(Placed {
+            token,
+            place,
+            end: place + (bytes.len() - rest.len()),
+        })),
         Err(reason) => Err(LexFault { reason, place }),
     }
 }

@@ -31,8 +31,7 @@ loop-b-again c =
     let i = c .loop-b .b-index in
     let digit = sym (c .if-not-takes .ensures tt) in
     let worth = c .from .ensures in
-    let small = digit-small (getD bs i 0) digit .1 in
-    (
+    let small = digit-small (getD bs i 0) digit .1 in (
       rw add-one (all-more isDigit bs i (c .loop-b .inv .0) (omega arith) digit),
       ap (λ n. n * 10 + c .from .result) (c .loop-b .inv .1) ∙ ap (λ d. decimal (take i bs) * 10 + d) worth ∙ sym (folded-more (λ n b. n * 10 + (b - 48)) 0 bs i 0 (omega arith)),
       rw (add-one i) (next-power (c .loop-b .value) (c .from .result) i (c .loop-b .inv .2) (omega arith)),
@@ -43,8 +42,7 @@ returns c =
     let bs = c .args .bytes .now in
     let i = c .loop-b .b-index in
     let all = take-all i bs (omega arith) in
-    let some = false-eqb (length bs) 0 (c .if-is-empty .ensures tt) in
-    (
+    let some = false-eqb (length bs) 0 (c .if-is-empty .ensures tt) in (
       (subst (All isDigit) all (c .loop-b .inv .0), omega arith, omega arith),
       c .loop-b .inv .1 ∙ ap decimal all,
       below-power (c .loop-b .value) i 9 (c .loop-b .inv .2) (omega arith),

@@ -16,8 +16,7 @@ pub returns-in-Some-single-mark : need.returns-in-Some-single-mark
 returns-in-Some-single-mark c =
     let bs = c .args .bytes .now in
     let m = c .in-Some-single-mark .m in
-    let told = sym (c .in-Some-single-mark .ensures tt) in
-    (
+    let told = sym (c .in-Some-single-mark .ensures tt) in (
       single bs m told,
       between-to-end bs 1 _ (omega arith) ∙ ap (λ n. drop n bs) (sym (one-byte (getD bs 0 0) m told)),
     )

@@ -12,10 +12,10 @@ add-column c = omega (arith, line-small (c .args .self .text .now) (c .loop-at .
 pub loop-at-again : need.loop-at-again
 loop-at-again c =
     elim (c .if-text-at-eq10 .came) [
-      then-text-at-eq10 w ↦
-        let next = behind-feed (c .args .self .text .now) (c .loop-at .at) (omega arith) (omega arith) in
-        (omega arith, omega arith, omega arith, omega (arith, next .0, w .line-is), omega (arith, next .1, w .column-is))
-    | else-text-at-eq10 w ↦
-        let next = behind-other (c .args .self .text .now) (c .loop-at .at) (omega arith) (λ e. omega arith) in
-        (omega arith, omega arith, omega arith, omega (arith, next .0, w .line-is), omega (arith, next .1, w .column-is))
+      | then-text-at-eq10 w ↦
+          let next = behind-feed (c .args .self .text .now) (c .loop-at .at) (omega arith) (omega arith) in
+          (omega arith, omega arith, omega arith, omega (arith, next .0, w .line-is), omega (arith, next .1, w .column-is))
+      | else-text-at-eq10 w ↦
+          let next = behind-other (c .args .self .text .now) (c .loop-at .at) (omega arith) (λ e. omega arith) in
+          (omega arith, omega arith, omega arith, omega (arith, next .0, w .line-is), omega (arith, next .1, w .column-is))
     ]
