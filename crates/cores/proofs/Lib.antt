@@ -1,0 +1,10 @@
+mod Values
+mod Fits
+mod Refusals
+mod Rules
+mod Comparing
+mod Replies
+mod Judging
+mod Shipped
+mod Stacks
+mod Lawful

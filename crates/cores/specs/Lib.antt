@@ -1,0 +1,10 @@
+pub mod Meaning
+pub mod Answers
+pub mod Lines
+pub mod MiniMl
+pub mod MiniC
+pub mod Layers
+pub mod Pairs
+pub mod Laws
+pub mod Steps
+pub mod Wrong
