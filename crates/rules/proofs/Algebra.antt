@@ -1,12 +1,11 @@
 -- The algebra of substitutions, and what they leave alone.
 use mathlib.Core.Path.{_≡_, refl, sym, _∙_, ap, ap₂, fun-ext}
 use mathlib.Core.Bool.{Bool, true, false, cond, _&&_}
-use Prim.Native.Nat.{ℕ, zero, suc, _+_, _≤_}
-use native.Mathlib.Omega.{arith}
+use Prim.Native.Nat.{zero, suc, _+_}
 use Rattle.std.specs.shelf.Text.{sameBytes}
 use Rattle.std.specs.declared.option.Option.{Option}
 use Rattle.std.specs.declared.option.Option.the-variants.{Some, None}
-use Rattle.types.specs.Types.{Name, Head, unit, binder, ModulePath, at, dot, Leaf, named, numbered, Ty, leaf, label0, label1, label2}
+use Rattle.types.specs.Types.{Name, Head, unit, binder, ModulePath, at, dot, named, numbered, Ty, leaf, label0, label1, label2}
 use Rattle.rules.specs.Signatures.{Sort, Signature, structure, functor, Components, empty, more, Declaration, abstract, defined, value, nested, sortOf, sameSort, firstOf, onSome, find, extent, extentAll, extentOne}
 use Rattle.rules.specs.Substitution.{Substitution, under, outward, innermost, onPath, out, lift, reading, onType, onSignature, onComponents, onDeclaration}
 

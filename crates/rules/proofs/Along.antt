@@ -1,11 +1,11 @@
 -- Lookup, normal forms and matching along a substitution from one environment to another, over any family K of facts
 -- 'the environment knows at this path at least this signature' that keeps some laws.
-use mathlib.Core.Path.{_≡_, refl, sym, _∙_, ap, ap₂, subst}
-use Prim.Native.Nat.{ℕ, zero, suc}
+use mathlib.Core.Path.{_≡_, refl, sym, _∙_, ap, subst}
+use Prim.Native.Nat.{zero, suc}
 use Rattle.std.specs.declared.option.Option.{Option}
 use Rattle.std.specs.declared.option.Option.the-variants.{Some, None}
 use Rattle.types.specs.Types.{Name, Head, unit, binder, ModulePath, at, dot, named, Ty, leaf, label0, label1, label2}
-use Rattle.rules.specs.Signatures.{aType, aValue, aModule, Signature, structure, functor, Components, empty, more, Declaration, abstract, defined, value, nested, find, onSome}
+use Rattle.rules.specs.Signatures.{aType, aValue, aModule, Signature, structure, functor, Components, Declaration, abstract, defined, value, nested, find, onSome}
 use Rattle.rules.specs.Substitution.{Substitution, under, outward, innermost, onPath, out, lift, reading, onType, onSignature, onComponents, onDeclaration}
 use Rattle.rules.specs.Lookup.{Env, extend, At, head, inside, Has, Normal, opaque, unfolds, bare, part, parts}
 use Rattle.rules.proofs.Algebra.{after, signature-comp, signature-reading-on, type-reading-on, components-reading-on, signature-under-out}
@@ -85,7 +85,7 @@ module _ (K : Env → ModulePath → Signature → Type 0) (L : Laws K) where
       From K θ Γ′ Γ → K Γ q (onSignature θ s) → From K (under q θ) (extend Γ′ s) Γ
   under-from θ Γ′ Γ q s k z =
       extend-cases Γ′ s (λ h t. K Γ (under q θ h) (onSignature (under q θ) t))
-        (subst (K Γ q) (sym (signature-under-out q θ s)) z) others
+      (subst (K Γ q) (sym (signature-under-out q θ s)) z) others
     where
       others : (h : Head) (t : Signature) → Γ′ h ≡ Some t → K Γ (under q θ (outward h)) (onSignature (under q θ) (onSignature out t))
       others (unit u) t e = subst (K Γ (θ (unit u))) (sym (signature-under-out q θ t)) (k (unit u) t e)
@@ -99,21 +99,21 @@ module _ (K : Env → ModulePath → Signature → Type 0) (L : Laws K) where
   lift-from θ Γ′ Γ s k =
       let Γ+ = extend Γ (onSignature θ s) in
       under-from (after out θ) Γ′ Γ+ innermost s (weaken-from θ Γ′ Γ (onSignature θ s) k)
-        (subst (K Γ+ innermost) (signature-comp out θ s) (L .exact Γ+ (binder zero) (onSignature out (onSignature θ s)) refl))
+      (subst (K Γ+ innermost) (signature-comp out θ s) (L .exact Γ+ (binder zero) (onSignature out (onSignature θ s)) refl))
 
   pub at-along : {Γ′ : Env} {p : ModulePath} {s : Signature} → At Γ′ p s → (θ : Substitution) (Γ : Env) → From K θ Γ′ Γ → K Γ (onPath θ p) (onSignature θ s)
   at-along (head {h = h} {s = s} e) θ Γ k = k h s e
   at-along (inside {p = p} {x = x} c d a f r) θ Γ k =
       subst (K Γ (dot (onPath θ p) x)) (sym (signature-reading-on θ p d) ∙ ap (onSignature θ) r)
-        (L .below Γ (onPath θ p) (onComponents (lift θ) c) x (onSignature (lift θ) d) (at-along a θ Γ k)
-          (find-on-some (lift θ) aModule x c (nested d) f))
+      (L .below Γ (onPath θ p) (onComponents (lift θ) c) x (onSignature (lift θ) d) (at-along a θ Γ k)
+      (find-on-some (lift θ) aModule x c (nested d) f))
 
   -- where a path leads to a type, the path that is put for it leads to a type that is the same
   pub abstract-along : {Γ′ : Env} {p : ModulePath} {x : Name} → Has Γ′ p aType x abstract → (θ : Substitution) (Γ : Env) → From K θ Γ′ Γ → Typed Γ (leaf (named (onPath θ p) x))
   abstract-along {Γ′} {p} {x} h θ Γ k =
       let c = h .components in
       L .ofAbstract Γ (onPath θ p) (onComponents (lift θ) c) x (at-along (h .leads) θ Γ k)
-        (find-on-some (lift θ) aType x c abstract (h .found ∙ ap Some (was-abstract (reading p) (h .declared) (h .reads))))
+      (find-on-some (lift θ) aType x c abstract (h .found ∙ ap Some (was-abstract (reading p) (h .declared) (h .reads))))
 
   pub defined-along :
       {Γ′ : Env} {p : ModulePath} {x : Name} {t : Ty} → Has Γ′ p aType x (defined t) → (θ : Substitution) (Γ : Env) → From K θ Γ′ Γ →
@@ -122,8 +122,8 @@ module _ (K : Env → ModulePath → Signature → Type 0) (L : Laws K) where
       let c = h .components in
       let w = was-defined (reading p) (h .declared) t (h .reads) in
       L .ofDefined Γ (onPath θ p) (onComponents (lift θ) c) x (onType (lift θ) (w .0)) n (at-along (h .leads) θ Γ k)
-        (find-on-some (lift θ) aType x c (defined (w .0)) (h .found ∙ ap Some (w .1)))
-        (subst (λ z. Normal Γ z n) (sym (ap (onType θ) (w .2)) ∙ type-reading-on θ p (w .0)) m)
+      (find-on-some (lift θ) aType x c (defined (w .0)) (h .found ∙ ap Some (w .1)))
+      (subst (λ z. Normal Γ z n) (sym (ap (onType θ) (w .2)) ∙ type-reading-on θ p (w .0)) m)
 
   pub value-along :
       {Γ′ : Env} {p : ModulePath} {x : Name} {t : Ty} → Has Γ′ p aValue x (value t) → (θ : Substitution) (Γ : Env) → From K θ Γ′ Γ →
@@ -132,8 +132,8 @@ module _ (K : Env → ModulePath → Signature → Type 0) (L : Laws K) where
       let c = h .components in
       let w = was-value (reading p) (h .declared) t (h .reads) in
       L .ofValue Γ (onPath θ p) (onComponents (lift θ) c) x (onType (lift θ) (w .0)) n (at-along (h .leads) θ Γ k)
-        (find-on-some (lift θ) aValue x c (value (w .0)) (h .found ∙ ap Some (w .1)))
-        (subst (λ z. Normal Γ z n) (sym (ap (onType θ) (w .2)) ∙ type-reading-on θ p (w .0)) m)
+      (find-on-some (lift θ) aValue x c (value (w .0)) (h .found ∙ ap Some (w .1)))
+      (subst (λ z. Normal Γ z n) (sym (ap (onType θ) (w .2)) ∙ type-reading-on θ p (w .0)) m)
 
   pub normal-along :
       {Γ′ : Env} {t n : Ty} → Normal Γ′ t n → (θ : Substitution) (Γ : Env) → From K θ Γ′ Γ →
@@ -167,7 +167,7 @@ module _ (K : Env → ModulePath → Signature → Type 0) (L : Laws K) where
     gives-along (gStructure {p = p} {c = c} g a m) θ Γ k =
         let w = L .isStructure Γ (onPath θ p) (onComponents (lift θ) g) (at-along a θ Γ k) in
         gStructure (w .0) (w .1)
-          (subst (GivesAll Γ (onPath θ p)) (components-reading-on θ p c) (givesAll-along m θ Γ k))
+        (subst (GivesAll Γ (onPath θ p)) (components-reading-on θ p c) (givesAll-along m θ Γ k))
     gives-along (gFunctor {p = p} {s = s} {r = r} f a m) θ Γ k =
         L .ofFunctor Γ (onPath θ p) (onSignature θ f) (onSignature θ s) (onSignature (lift θ) r) (at-along a θ Γ k) (fits-along m θ Γ k)
 

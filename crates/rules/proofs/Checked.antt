@@ -1,28 +1,27 @@
 -- Where a signature is derived, in an environment that is coarser, the checker has one that matches it; and so for units.
-use mathlib.Core.Path.{_≡_, refl, sym, _∙_, ap, ap₂, subst, subst₂}
-use mathlib.Core.Bool.{Bool, true, false, cond}
-use mathlib.Core.List.{List, [], _∷_}
-use Prim.Native.Nat.{ℕ, zero, suc}
-use Rattle.std.specs.declared.option.Option.{Option}
+use mathlib.Core.Path.{_≡_, refl, sym, _∙_, ap, subst}
+use mathlib.Core.Bool.{Bool, false, cond}
+use mathlib.Core.List.{List}
+use Prim.Native.Nat.{ℕ}
 use Rattle.std.specs.declared.option.Option.the-variants.{Some, None}
-use Rattle.types.specs.Types.{Name, Head, unit, ModulePath, at, dot, named, Ty, leaf}
+use Rattle.types.specs.Types.{Name, Head, unit, at, Ty}
 use Rattle.cores.specs.Meaning.{Outcome, Stable}
 use Rattle.cores.specs.declared.interface.Operation.{Operation}
-use Rattle.rules.specs.Signatures.{Sort, aType, aValue, aModule, Signature, structure, functor, Components, empty, more, Declaration, abstract, defined, value, nested, sortOf, find, onSome}
-use Rattle.rules.specs.Substitution.{innermost, reading, onSignature}
-use Rattle.rules.specs.Lookup.{Env, extend, At, head, Has, Normal, unfolds}
+use Rattle.rules.specs.Signatures.{aType, aValue, aModule, Signature, structure, functor, Components, empty, more, defined, value, nested, onSome}
+use Rattle.rules.specs.Substitution.{reading, onSignature}
+use Rattle.rules.specs.Lookup.{Env, extend, head, unfolds}
 use Rattle.rules.specs.Strengthening.{strengthen}
-use Rattle.rules.specs.Syntax.{typeOf, signatureOf, Module, Items, typeItem, letItem, moduleItem, CompilationUnit}
+use Rattle.rules.specs.Syntax.{typeOf, signatureOf, Module, Items, typeItem, letItem, moduleItem}
 use Rattle.rules.specs.Rules.{Derives, byPath, byItems, byFunctor, byApplication, bySignature, byMatching, DerivesAll, noItem, typeToo, letToo, moduleToo}
 use Rattle.rules.specs.Environments.{unknown, withUnit}
 use Rattle.rules.specs.Projects.{Units, noUnits, moreUnits, Loads, start, next}
-use Rattle.rules.specs.Checker.{andThen, given, unless, lookup, normalType, normalize, doesMatch, termType, apply, check, checkAll, checkItem, checkUnits}
+use Rattle.rules.specs.Checker.{andThen, unless, lookup, normalize, doesMatch, apply, check, checkAll, checkUnits}
 use Rattle.rules.proofs.Finding.{clash, normal-normal}
-use Rattle.rules.proofs.Inner.{Typed, Gives, Fits, fStructure, fFunctor, gNone, Proper, ProperAll, ProperOne, ProperEnv}
+use Rattle.rules.proofs.Inner.{Gives, Fits, fStructure, fFunctor, gNone, ProperEnv}
 use Rattle.rules.proofs.Along.{fits-along}
-use Rattle.rules.proofs.Exact.{Exact, exact-laws, exact-at, fits-fresh}
+use Rattle.rules.proofs.Exact.{Exact, exact-at, fits-fresh}
 use Rattle.rules.proofs.Transitive.{Knows, knows-laws, knows-gives, fits-trans}
-use Rattle.rules.proofs.Knowing.{Along, reading-along, knows-at, knows-fits, gives-fits, at-fits, typed-finer, knows-finer, gives-finer, fits-finer}
+use Rattle.rules.proofs.Knowing.{Along, reading-along, knows-fits, gives-fits, at-fits, typed-finer, knows-finer, gives-finer, fits-finer}
 use Rattle.rules.proofs.Properness.{proper-at, proper-along, proper-extend, proper-finer}
 use Rattle.rules.proofs.Reflexive.{fits-self, has-at}
 use Rattle.rules.proofs.Strengthened.{gives-strengthen, proper-strengthen}
@@ -31,11 +30,11 @@ use Rattle.rules.proofs.Wording.{leads-typed, sound-proper, matches-fits}
 use Rattle.rules.proofs.Terms.{term-finer}
 use Rattle.rules.proofs.Derived.{argument-gives, derives-proper, derivesAll-proper}
 use Rattle.rules.proofs.Principal.{finer-extend, longer-extend, last-has, same-finer, fits-more, fits-functor, principal}
-use Rattle.rules.proofs.Project.{unit-cases, unit-kept, unit-proper, finer-unit, none-kept, none-proper, loads-proper}
-use Rattle.rules.proofs.Settling.{Settled, SettledAll, SettledOne, SettledEnv, settled-proper, settled-env-proper, settled-extend, settled-finer, at-lookup, type-normal, then-some, then-is, unless-some, unless-is}
-use Rattle.rules.proofs.Normalizing.{fits-along-fresh, NormalOf, normalize-is, normalize-proper}
+use Rattle.rules.proofs.Project.{unit-cases, unit-kept, finer-unit, none-kept, loads-proper}
+use Rattle.rules.proofs.Settling.{Settled, SettledAll, SettledEnv, settled-proper, settled-env-proper, settled-extend, settled-finer, at-lookup, type-normal, then-some, then-is, unless-some, unless-is}
+use Rattle.rules.proofs.Normalizing.{fits-along-fresh, normalize-is, normalize-proper}
 use Rattle.rules.proofs.Deciding.{match-found}
-use Rattle.rules.proofs.Checking.{cond-is, has-type, all-together, undeclared-checked, Checks, check-checks}
+use Rattle.rules.proofs.Checking.{cond-is, has-type, all-together, undeclared-checked, check-checks}
 
 -- what the checker finds, and that it matches
 pub record Finds {C : Type 0} (rule : Operation → List Ty → Outcome C) (Γ : Env) (m : Module) (s : Signature) : Type 0 where
@@ -54,9 +53,9 @@ pub record FindsAll {C : Type 0} (rule : Operation → List Ty → Outcome C) (�
 pub unit-settled : (x : Name) (s : Signature) (Γ : Env) → Γ (unit x) ≡ None → SettledEnv Γ → Settled Γ s → SettledEnv (withUnit x s Γ)
 unit-settled x s Γ f e w =
     let k = λ (h : Head) (t : Signature) (q : Γ h ≡ Some t).
-          subst (Exact (withUnit x s Γ) (at h)) (sym (Rattle.rules.proofs.Algebra.signature-id t)) (exact-at (head (unit-kept x s Γ f h t q))) in
+    subst (Exact (withUnit x s Γ) (at h)) (sym (Rattle.rules.proofs.Algebra.signature-id t)) (exact-at (head (unit-kept x s Γ f h t q))) in
     unit-cases x s Γ (λ h t. Settled (withUnit x s Γ) t) (settled-finer Γ (withUnit x s Γ) s k w)
-      (λ h t i. settled-finer Γ (withUnit x s Γ) t k (e h t i))
+    (λ h t i. settled-finer Γ (withUnit x s Γ) t k (e h t i))
 
 pub none-settled : SettledEnv unknown
 none-settled h s q = clash (cc)
@@ -79,7 +78,7 @@ module _ {C : Type 0} (n : ℕ) (rule : Operation → List Ty → Outcome C) (la
           checked = q .0;
           is = then-is (lookup Γ p) (λ s. normalize Γ (strengthen p s)) (i .0) (q .0) (at-lookup (i .1)) (q .1);
           settled = j .settled;
-          matches = fits-trans (j .back) f
+          matches = fits-trans (j .back) f;
         }
     derives-finds (byItems d) e′ Γ e k =
         let w = derivesAll-finds d e′ Γ e k in
@@ -96,7 +95,7 @@ module _ {C : Type 0} (n : ℕ) (rule : Operation → List Ty → Outcome C) (la
           checked = functor a (i .checked);
           is = then-is (normalize Γ s) (λ a. onSome (functor a) (check rule (extend Γ a) m)) a (functor a (i .checked)) (q .1) (ap (onSome (functor a)) (i .is));
           settled = (j .settled, i .settled);
-          matches = fFunctor (j .forth) (fits-finer (fits-along-fresh Γ s a (j .forth)) (i .matches))
+          matches = fFunctor (j .forth) (fits-finer (fits-along-fresh Γ s a (j .forth)) (i .matches));
         }
     derives-finds (byApplication {Γ = Γ′} {m = m} {p = p} s′ r′ a′ d′ at′ m′) e′ Γ e k =
         let ep = settled-env-proper Γ e in
@@ -121,14 +120,14 @@ module _ {C : Type 0} (n : ℕ) (rule : Operation → List Ty → Outcome C) (la
         let t = y .0 in
         let z = normalize-is (onSignature (reading p) r) Γ t e (y .1) in
         let steps : apply Γ p (functor s r) ≡ Some t =
-              then-is (lookup Γ p) (λ a. andThen (normalize Γ (strengthen p a)) (λ b. cond (doesMatch Γ b s) (normalize Γ (onSignature (reading p) r)) None)) a t (at-lookup (j .1))
-                (then-is (normalize Γ (strengthen p a)) (λ b. cond (doesMatch Γ b s) (normalize Γ (onSignature (reading p) r)) None) b t (q .1)
-                  (cond-is (doesMatch Γ b s) (normalize Γ (onSignature (reading p) r)) t m₂ (y .1))) in
+        then-is (lookup Γ p) (λ a. andThen (normalize Γ (strengthen p a)) (λ b. cond (doesMatch Γ b s) (normalize Γ (onSignature (reading p) r)) None)) a t (at-lookup (j .1))
+        (then-is (normalize Γ (strengthen p a)) (λ b. cond (doesMatch Γ b s) (normalize Γ (onSignature (reading p) r)) None) b t (q .1)
+        (cond-is (doesMatch Γ b s) (normalize Γ (onSignature (reading p) r)) t m₂ (y .1))) in
         record {
           checked = t;
           is = then-is (check rule Γ m) (apply Γ p) (functor s r) t found steps;
           settled = z .settled;
-          matches = fits-trans (z .back) (fits-along Knows knows-laws (f .4) (reading p) Γ (reading-along Γ p s′ (knows-gives g′)))
+          matches = fits-trans (z .back) (fits-along Knows knows-laws (f .4) (reading p) Γ (reading-along Γ p s′ (knows-gives g′)));
         }
     derives-finds (bySignature {Γ = Γ′} {m = m} {s = t} g′ d′ w o) e′ Γ e k =
         let s = signatureOf t in
@@ -142,9 +141,9 @@ module _ {C : Type 0} (n : ℕ) (rule : Operation → List Ty → Outcome C) (la
         record {
           checked = a;
           is = then-is (check rule Γ m) (λ g. andThen (normalize Γ s) (λ a. cond (doesMatch Γ g a) (Some a) None)) (i .checked) a (i .is)
-            (then-is (normalize Γ s) (λ a. cond (doesMatch Γ (i .checked) a) (Some a) None) a a (q .1) (cond-is (doesMatch Γ (i .checked) a) (Some a) a b refl));
+              (then-is (normalize Γ s) (λ a. cond (doesMatch Γ (i .checked) a) (Some a) None) a a (q .1) (cond-is (doesMatch Γ (i .checked) a) (Some a) a b refl));
           settled = j .settled;
-          matches = j .back
+          matches = j .back;
         }
     derives-finds (byMatching {Γ = Γ′} {s = s} g′ _ d′ w m) e′ Γ e k =
         let i = derives-finds d′ e′ Γ e k in
@@ -152,7 +151,7 @@ module _ {C : Type 0} (n : ℕ) (rule : Operation → List Ty → Outcome C) (la
           checked = i .checked;
           is = i .is;
           settled = i .settled;
-          matches = fits-trans (i .matches) (fits-finer k (matches-fits m e′ (derives-proper n rule law d′ e′) (sound-proper s Γ′ e′ w)))
+          matches = fits-trans (i .matches) (fits-finer k (matches-fits m e′ (derives-proper n rule law d′ e′) (sound-proper s Γ′ e′ w)));
         }
 
     derivesAll-finds :
@@ -173,7 +172,7 @@ module _ {C : Type 0} (n : ℕ) (rule : Operation → List Ty → Outcome C) (la
           checked = more c x (defined b);
           is = all-together rule is′ x (typeItem t) Γ c (defined b) (i .is) f (ap (onSome defined) (type-normal e+ (o .1)));
           settled = (i .settled, f, normal-normal (o .1));
-          matches = fits-more Γ c c′ x (defined b) (defined (typeOf t)) (i .matches) (y .0, unfolds b (last-has Γ c x (defined b) f) (y .1), y .2)
+          matches = fits-more Γ c c′ x (defined b) (defined (typeOf t)) (i .matches) (y .0, unfolds b (last-has Γ c x (defined b) f) (y .1), y .2);
         }
     derivesAll-finds (letToo {Γ = Γ′} {is = is′} {c = c′} {x = x} {t = t} {n = b′} d′ u h) e′ Γ e k =
         let i = derivesAll-finds d′ e′ Γ e k in
@@ -188,7 +187,7 @@ module _ {C : Type 0} (n : ℕ) (rule : Operation → List Ty → Outcome C) (la
           checked = more c x (value b);
           is = all-together rule is′ x (letItem t) Γ c (value b) (i .is) f (ap (onSome value) (has-type rule (w .1) e+));
           settled = (i .settled, f, normal-normal (w .2));
-          matches = fits-more Γ c c′ x (value b) (value b′) (i .matches) (b, y .0, last-has Γ c x (value b) f, y .1, y .2)
+          matches = fits-more Γ c c′ x (value b) (value b′) (i .matches) (b, y .0, last-has Γ c x (value b) f, y .1, y .2);
         }
     derivesAll-finds (moduleToo {Γ = Γ′} {is = is′} {c = c′} {x = x} {m = m} {s = s′} d′ u o) e′ Γ e k =
         let i = derivesAll-finds d′ e′ Γ e k in
@@ -204,7 +203,7 @@ module _ {C : Type 0} (n : ℕ) (rule : Operation → List Ty → Outcome C) (la
           checked = more c x (nested s);
           is = all-together rule is′ x (moduleItem m) Γ c (nested s) (i .is) f (ap (onSome nested) (j .is));
           settled = (i .settled, f, j .settled);
-          matches = fits-more Γ c c′ x (nested s) (nested s′) (i .matches) (at-fits (has-at h) (fits-finer (longer-extend Γ c x (nested s)) (j .matches)))
+          matches = fits-more Γ c c′ x (nested s) (nested s′) (i .matches) (at-fits (has-at h) (fits-finer (longer-extend Γ c x (nested s)) (j .matches)));
         }
 
   -- what checked units know, and what loaded units know, which is finer
@@ -219,7 +218,7 @@ module _ {C : Type 0} (n : ℕ) (rule : Operation → List Ty → Outcome C) (la
   check-knows noUnits Γ q =
       let i : unknown ≡ Γ = some-is q in
       subst (Knowing noUnits) i
-        (record { settled = none-settled; own = unknown; loads = start; finer = λ h s q. clash (cc); absent = λ h f. f })
+      (record { settled = none-settled; own = unknown; loads = start; finer = λ h s q. clash (cc); absent = λ h f. f })
     where
       some-is : {a b : Env} → Some a ≡ Some b → a ≡ b
       some-is e = cc
@@ -235,13 +234,13 @@ module _ {C : Type 0} (n : ℕ) (rule : Operation → List Ty → Outcome C) (la
       let o = principal n rule law (j .derives) (settled-env-proper Γ₀ (i .settled)) (i .own) (loads-proper n rule law (i .loads)) (i .finer) in
       let f = i .absent (unit x) (v .0) in
       subst (Knowing (moreUnits us u)) (some-is (y .2))
-        (record {
-          settled = unit-settled x s Γ₀ (v .0) (i .settled) (j .settled);
-          own = withUnit x (o .0) (i .own);
-          loads = next (o .0) (i .loads) f (o .1);
-          finer = finer-unit x s (o .0) Γ₀ (i .own) f (i .finer) (fits-trans (o .2) (fits-finer (i .finer) (j .matches)));
-          absent = none-kept x s (o .0) Γ₀ (i .own) (i .absent)
-        })
+      (record {
+        settled = unit-settled x s Γ₀ (v .0) (i .settled) (j .settled);
+        own = withUnit x (o .0) (i .own);
+        loads = next (o .0) (i .loads) f (o .1);
+        finer = finer-unit x s (o .0) Γ₀ (i .own) f (i .finer) (fits-trans (o .2) (fits-finer (i .finer) (j .matches)));
+        absent = none-kept x s (o .0) Γ₀ (i .own) (i .absent);
+      })
     where
       some-is : {a b : Env} → Some a ≡ Some b → a ≡ b
       some-is e = cc
@@ -266,9 +265,9 @@ module _ {C : Type 0} (n : ℕ) (rule : Operation → List Ty → Outcome C) (la
       record {
         known = withUnit x s Γ;
         is = then-is (checkUnits rule us) (λ Γ. unless (Γ (unit (u .name))) (andThen (check rule Γ (u .body)) (λ s. Some (withUnit (u .name) s Γ)))) Γ (withUnit x s Γ) (i .is)
-          (unless-is (Γ (unit x)) (andThen (check rule Γ (u .body)) (λ s. Some (withUnit x s Γ))) (withUnit x s Γ) f
+            (unless-is (Γ (unit x)) (andThen (check rule Γ (u .body)) (λ s. Some (withUnit x s Γ))) (withUnit x s Γ) f
             (then-is (check rule Γ (u .body)) (λ s. Some (withUnit x s Γ)) s (withUnit x s Γ) (j .is) refl));
         settled = unit-settled x s Γ f (i .settled) (j .settled);
         finer = finer-unit x s′ s Γ′ Γ f (i .finer) (j .matches);
-        absent = none-kept x s′ s Γ′ Γ (i .absent)
+        absent = none-kept x s′ s Γ′ Γ (i .absent);
       }

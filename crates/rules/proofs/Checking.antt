@@ -1,39 +1,37 @@
 -- The checker's signatures: where it has one, the module has an own signature that matches it, and where a signature is derived, it has one
 -- that matches that.
-use mathlib.Core.Path.{_≡_, refl, sym, _∙_, ap, ap₂, subst, subst₂}
+use mathlib.Core.Path.{_≡_, refl, sym, _∙_, ap, subst}
 use mathlib.Core.Bool.{Bool, true, false, cond}
 use mathlib.Core.List.{List, [], _∷_}
-use Prim.Native.Nat.{ℕ, zero, suc}
+use Prim.Native.Nat.{ℕ}
 use Rattle.std.specs.declared.option.Option.{Option}
 use Rattle.std.specs.declared.option.Option.the-variants.{Some, None}
-use Rattle.types.specs.Types.{Name, ModulePath, at, dot, named, Ty, leaf}
+use Rattle.types.specs.Types.{Name, ModulePath, Ty}
 use Rattle.cores.specs.Meaning.{Outcome, gives, refuses, Stable}
 use Rattle.cores.specs.declared.interface.Operation.{Operation}
 use Rattle.cores.specs.declared.interface.Operation.the-variants.{Literal, Function, Operator}
-use Rattle.rules.specs.Signatures.{Sort, aType, aValue, aModule, Signature, structure, functor, Components, empty, more, Declaration, abstract, defined, value, nested, sortOf, find, onSome}
-use Rattle.rules.specs.Substitution.{innermost, out, lift, reading, onSignature}
-use Rattle.rules.specs.Lookup.{Env, extend, At, head, Has, Normal, unfolds}
+use Rattle.rules.specs.Signatures.{Sort, aType, aValue, aModule, Signature, structure, functor, Components, empty, more, Declaration, defined, value, nested, sortOf, find, onSome}
+use Rattle.rules.specs.Substitution.{reading, onSignature}
+use Rattle.rules.specs.Lookup.{Env, extend, At, Normal, unfolds}
 use Rattle.rules.specs.Strengthening.{strengthen}
 use Rattle.rules.specs.Syntax.{typeOf, signatureOf, Term, variable, component, integer, operation, lambda, Terms, noTerms, moreTerms, Module, modulePath, struct, functorOf, applied, ascribed, Items, noItems, moreItems, Item, typeItem, letItem, moduleItem}
-use Rattle.rules.specs.Rules.{pick, itemSort, Undeclared, TermHas, ofVariable, ofComponent, ofInteger, ofOperation, ofLambda, TermsHave, noneHave, moreHave, Derives, byPath, byItems, byFunctor, byApplication, bySignature, byMatching, DerivesAll, noItem, typeToo, letToo, moduleToo}
-use Rattle.rules.specs.Checker.{andThen, given, unless, declared, lookup, normalType, normalValue, normalize, doesMatch, accepted, termType, termTypes, apply, check, checkAll, checkItem}
-use Rattle.rules.proofs.Finding.{clash, normal-unique, normal-normal}
-use Rattle.rules.proofs.Inner.{Typed, Gives, Fits, fStructure, fFunctor, gNone, Proper, ProperAll, ProperOne, ProperEnv}
+use Rattle.rules.specs.Rules.{pick, itemSort, Undeclared, TermHas, ofVariable, ofComponent, ofInteger, ofOperation, ofLambda, TermsHave, noneHave, moreHave, Derives, byPath, byItems, byFunctor, byApplication, bySignature, DerivesAll, noItem, typeToo, letToo, moduleToo}
+use Rattle.rules.specs.Checker.{andThen, unless, declared, lookup, normalType, normalValue, normalize, doesMatch, accepted, termType, termTypes, apply, check, checkAll, checkItem}
+use Rattle.rules.proofs.Finding.{clash, normal-normal}
+use Rattle.rules.proofs.Inner.{Gives, Fits, fStructure, fFunctor, gNone}
 use Rattle.rules.proofs.Along.{was-some, fits-along}
-use Rattle.rules.proofs.Exact.{fits-fresh}
 use Rattle.rules.proofs.Transitive.{Knows, knows-laws, knows-gives, fits-trans}
-use Rattle.rules.proofs.Knowing.{Along, id-along, reading-along, knows-at, knows-fits, gives-fits, at-fits, typed-finer, knows-finer, gives-finer, fits-finer}
-use Rattle.rules.proofs.Properness.{proper-at, proper-along, proper-extend, proper-finer}
-use Rattle.rules.proofs.Reflexive.{fits-self, has-at}
-use Rattle.rules.proofs.Strengthened.{gives-strengthen, proper-strengthen, strengthened-gives}
-use Rattle.rules.proofs.Converse.{gives-at, gives-strengthened}
-use Rattle.rules.proofs.Wording.{leads-typed, typed-leads, sound-proper, proper-sound, fits-matches, matches-fits}
+use Rattle.rules.proofs.Knowing.{id-along, reading-along, at-fits, fits-finer}
+use Rattle.rules.proofs.Properness.{proper-at, proper-extend}
+use Rattle.rules.proofs.Reflexive.{has-at}
+use Rattle.rules.proofs.Strengthened.{strengthened-gives}
+use Rattle.rules.proofs.Wording.{typed-leads, proper-sound, fits-matches}
 use Rattle.rules.proofs.Terms.{term-finer}
-use Rattle.rules.proofs.Derived.{find-none, undeclared-none, argument-gives, derives-proper, derivesAll-proper}
-use Rattle.rules.proofs.Principal.{finer-extend, longer-extend, last-has, same-finer, fits-more, fits-functor, principal}
-use Rattle.rules.proofs.Settling.{Settled, SettledAll, SettledOne, SettledEnv, settled-proper, settled-env-proper, settled-extend, settled-at, settled-has, lookup-at, at-lookup, declared-has, has-declared, normal-type, type-normal, then-some, then-is, given-true, given-is, unless-some, unless-is}
-use Rattle.rules.proofs.Normalizing.{fits-along-fresh, none-before, NormalOf, normalize-is, normalize-proper}
-use Rattle.rules.proofs.Deciding.{normal-value, match-tells, match-found}
+use Rattle.rules.proofs.Derived.{find-none, undeclared-none, derivesAll-proper}
+use Rattle.rules.proofs.Principal.{longer-extend, last-has, same-finer, fits-more, fits-functor, principal}
+use Rattle.rules.proofs.Settling.{Settled, SettledAll, SettledEnv, settled-proper, settled-env-proper, settled-extend, lookup-at, declared-has, has-declared, normal-type, type-normal, then-some, then-is, unless-some, unless-is}
+use Rattle.rules.proofs.Normalizing.{fits-along-fresh, none-before, NormalOf, normalize-is}
+use Rattle.rules.proofs.Deciding.{normal-value, match-tells}
 
 pub accepted-is : {C : Type 0} (o : Outcome C) (t : Ty) → accepted o ≡ Some t → o ≡ gives t
 accepted-is (gives u) t e = cc
@@ -64,9 +62,9 @@ module _ {C : Type 0} (rule : Operation → List Ty → Outcome C) where
         let w = then-some (normalType Γ (typeOf t)) (λ a. andThen (termType rule Γ (typeOf t ∷ Δ) b) (λ r. accepted (rule Function (a ∷ r ∷ [])))) n q in
         let v = then-some (termType rule Γ (typeOf t ∷ Δ) b) (λ r. accepted (rule Function (w .0 ∷ r ∷ []))) n (w .2) in
         ofLambda (w .0) (v .0) (normal-type Γ (typeOf t) (w .0) e (w .1)) (type-has b Γ (typeOf t ∷ Δ) (v .0) e (v .1))
-          (accepted-is (rule Function (w .0 ∷ v .0 ∷ [])) n (v .2))
+        (accepted-is (rule Function (w .0 ∷ v .0 ∷ [])) n (v .2))
 
-    types-have : (ts : Terms) (Γ : Env) (Δ : List Ty) (ns : List Ty) → SettledEnv Γ → termTypes rule Γ Δ ts ≡ Some ns → TermsHave rule Γ Δ ts ns
+    pub types-have : (ts : Terms) (Γ : Env) (Δ : List Ty) (ns : List Ty) → SettledEnv Γ → termTypes rule Γ Δ ts ≡ Some ns → TermsHave rule Γ Δ ts ns
     types-have noTerms Γ Δ ns e q = let i : [] ≡ ns = cc in subst (TermsHave rule Γ Δ noTerms) i noneHave
     types-have (moreTerms t ts) Γ Δ ns e q =
         let w = then-some (termType rule Γ Δ t) (λ n. onSome (λ ns. n ∷ ns) (termTypes rule Γ Δ ts)) ns q in
@@ -83,7 +81,7 @@ module _ {C : Type 0} (rule : Operation → List Ty → Outcome C) where
         then-is (termTypes rule Γ Δ ts) (λ ns. accepted (rule (Operator k) ns)) ns n (have-types hs e) (ap accepted q)
     has-type {Γ} (ofLambda {Δ = Δ} {t = t} {b = b} {n = n} a r m h q) e =
         then-is (normalType Γ (typeOf t)) (λ a. andThen (termType rule Γ (typeOf t ∷ Δ) b) (λ r. accepted (rule Function (a ∷ r ∷ [])))) a n (type-normal e m)
-          (then-is (termType rule Γ (typeOf t ∷ Δ) b) (λ r. accepted (rule Function (a ∷ r ∷ []))) r n (has-type h e) (ap accepted q))
+        (then-is (termType rule Γ (typeOf t ∷ Δ) b) (λ r. accepted (rule Function (a ∷ r ∷ []))) r n (has-type h e) (ap accepted q))
 
     have-types : {Γ : Env} {Δ : List Ty} {ts : Terms} {ns : List Ty} → TermsHave rule Γ Δ ts ns → SettledEnv Γ → termTypes rule Γ Δ ts ≡ Some ns
     have-types noneHave e = refl
@@ -112,14 +110,14 @@ module _ {C : Type 0} (rule : Operation → List Ty → Outcome C) where
       checkItem rule (extend Γ (structure b)) i ≡ Some d → checkAll rule Γ (moreItems is x i) ≡ Some (more b x d)
   all-together is x i Γ b d p n q =
       then-is (checkAll rule Γ is) (λ c. unless (find (itemSort i) x c) (onSome (more c x) (checkItem rule (extend Γ (structure c)) i))) b (more b x d) p
-        (unless-is (find (itemSort i) x b) (onSome (more b x) (checkItem rule (extend Γ (structure b)) i)) (more b x d) n (ap (onSome (more b x)) q))
+      (unless-is (find (itemSort i) x b) (onSome (more b x) (checkItem rule (extend Γ (structure b)) i)) (more b x d) n (ap (onSome (more b x)) q))
 
   pub undeclared-checked : (is : Items) (Γ : Env) (c : Components) → checkAll rule Γ is ≡ Some c → (s : Sort) (x : Name) → Undeclared s x is → find s x c ≡ None
   undeclared-checked noItems Γ c q s x u = let i : empty ≡ c = cc in subst (λ z. find s x z ≡ None) i refl
   undeclared-checked (moreItems is y i) Γ c q s x u =
       let w = all-parts is y i Γ c q in
       subst (λ z. find s x z ≡ None) (w .5)
-        (find-none (w .0) s x y (w .1) (undeclared-checked is Γ (w .0) (w .2) s x (u .0)) (λ p r. u .1 (sym (item-sort i (extend Γ (structure (w .0))) (w .1) (w .4)) ∙ p) r))
+      (find-none (w .0) s x y (w .1) (undeclared-checked is Γ (w .0) (w .2) s x (u .0)) (λ p r. u .1 (sym (item-sort i (extend Γ (structure (w .0))) (w .1) (w .4)) ∙ p) r))
 
   checked-undeclared : (is : Items) (Γ : Env) (c : Components) → checkAll rule Γ is ≡ Some c → (s : Sort) (x : Name) → find s x c ≡ None → Undeclared s x is
   checked-undeclared noItems Γ c q s x f = tt
@@ -168,7 +166,7 @@ module _ {C : Type 0} (n : ℕ) (rule : Operation → List Ty → Outcome C) (la
         own = onSignature (reading p) (z .1);
         derives = byApplication {argument = argument} (z .0) (z .1) a d i (fits-matches (fits-trans m₁ (z .3)));
         matches = fits-trans (fits-along Knows knows-laws (z .4) (reading p) Γ (reading-along Γ p s (knows-gives g))) (l .forth);
-        settled = l .settled
+        settled = l .settled;
       }
 
   mutual
@@ -181,7 +179,7 @@ module _ {C : Type 0} (n : ℕ) (rule : Operation → List Ty → Outcome C) (la
         let w = was-some structure (checkAll rule Γ is) s q in
         let i = checkAll-checks is Γ (w .0) e (w .1) in
         subst (Checks rule Γ (struct place is)) (w .2)
-          (record { own = structure (i .own); derives = byItems (i .derives); matches = i .matches; settled = i .settled })
+        (record { own = structure (i .own); derives = byItems (i .derives); matches = i .matches; settled = i .settled })
     check-checks (functorOf place t m) Γ s e q =
         let w = then-some (normalize Γ (signatureOf t)) (λ a. onSome (functor a) (check rule (extend Γ a) m)) s q in
         let a = w .0 in
@@ -194,12 +192,12 @@ module _ {C : Type 0} (n : ℕ) (rule : Operation → List Ty → Outcome C) (la
         let k = fits-along-fresh Γ p a (i .forth) in
         let o = principal n rule law (j .derives) (settled-env-proper (extend Γ a) e+) (extend Γ p) (proper-extend Γ p ep (i .proper)) k in
         subst (Checks rule Γ (functorOf place t m)) (v .2)
-          (record {
-            own = functor p (o .0);
-            derives = byFunctor (proper-sound p Γ (i .proper)) (o .1);
-            matches = fFunctor (i .back) (fits-finer (fits-along-fresh Γ a p (i .back)) (fits-trans (o .2) (fits-finer k (j .matches))));
-            settled = (i .settled, j .settled)
-          })
+        (record {
+          own = functor p (o .0);
+          derives = byFunctor (proper-sound p Γ (i .proper)) (o .1);
+          matches = fFunctor (i .back) (fits-finer (fits-along-fresh Γ a p (i .back)) (fits-trans (o .2) (fits-finer k (j .matches))));
+          settled = (i .settled, j .settled);
+        })
     check-checks (applied place m argument p) Γ s e q =
         let w = then-some (check rule Γ m) (apply Γ p) s q in
         apply-checks Γ place argument m p (w .0) s e (check-checks m Γ (w .0) e (w .1)) (w .2)
@@ -214,12 +212,12 @@ module _ {C : Type 0} (n : ℕ) (rule : Operation → List Ty → Outcome C) (la
         let f = fits-trans (j .matches) (fits-trans (match-tells Γ g a e (j .settled) (settled-proper a Γ (i .settled)) (y .0)) (i .back)) in
         let same : a ≡ s = some-is (y .1) in
         subst (Checks rule Γ (ascribed place inner m t)) same
-          (record {
-            own = signatureOf t;
-            derives = bySignature {inner = inner} (j .own) (j .derives) (proper-sound (signatureOf t) Γ (i .proper)) (fits-matches f);
-            matches = i .forth;
-            settled = i .settled
-          })
+        (record {
+          own = signatureOf t;
+          derives = bySignature {inner = inner} (j .own) (j .derives) (proper-sound (signatureOf t) Γ (i .proper)) (fits-matches f);
+          matches = i .forth;
+          settled = i .settled;
+        })
       where
         some-is : {b c : Signature} → Some b ≡ Some c → b ≡ c
         some-is e = cc
@@ -234,7 +232,7 @@ module _ {C : Type 0} (n : ℕ) (rule : Operation → List Ty → Outcome C) (la
         let j = checkAll-checks is Γ b e (w .2) in
         let e+ = settled-extend Γ (structure b) e (j .settled) in
         subst (ChecksAll rule Γ (moreItems is x i)) (w .5)
-          (checkItem-checks i Γ is b x (w .1) e j e+ (checked-undeclared rule is Γ b (w .2) (itemSort i) x (w .3)) (w .3) (w .4))
+        (checkItem-checks i Γ is b x (w .1) e j e+ (checked-undeclared rule is Γ b (w .2) (itemSort i) x (w .3)) (w .3) (w .4))
 
     checkItem-checks :
         (i : Item) (Γ : Env) (is : Items) (b : Components) (x : Name) (d : Declaration) → SettledEnv Γ → ChecksAll rule Γ is b → SettledEnv (extend Γ (structure b)) →
@@ -249,12 +247,12 @@ module _ {C : Type 0} (n : ℕ) (rule : Operation → List Ty → Outcome C) (la
         let y = same-finer (longer-extend Γ c x (defined (typeOf t))) (v .1) (v .2) in
         let h = last-has Γ c x (defined (typeOf t)) (undeclared-none (j .derives) aType x u) in
         subst (λ z. ChecksAll rule Γ (moreItems is x (typeItem t)) (more b x z)) (w .2)
-          (record {
-            own = more c x (defined (typeOf t));
-            derives = typeToo (j .derives) u (typed-leads (v .1));
-            matches = fits-more Γ c b x (defined (typeOf t)) (defined (w .0)) (j .matches) (y .0, unfolds (typeOf t) h (y .1), y .2);
-            settled = (j .settled, f, normal-normal m)
-          })
+        (record {
+          own = more c x (defined (typeOf t));
+          derives = typeToo (j .derives) u (typed-leads (v .1));
+          matches = fits-more Γ c b x (defined (typeOf t)) (defined (w .0)) (j .matches) (y .0, unfolds (typeOf t) h (y .1), y .2);
+          settled = (j .settled, f, normal-normal m);
+        })
     checkItem-checks (letItem t) Γ is b x d e j e+ u f q =
         let w = was-some value (termType rule (extend Γ (structure b)) [] t) d q in
         let c = j .own in
@@ -266,12 +264,12 @@ module _ {C : Type 0} (n : ℕ) (rule : Operation → List Ty → Outcome C) (la
         let o = term-finer n rule law m (extend Γ (structure b)) (id-along (extend Γ (structure b))) in
         let same : o .0 ≡ w .0 = Rattle.rules.proofs.Terms.term-unique rule (o .1) m in
         subst (λ z. ChecksAll rule Γ (moreItems is x (letItem t)) (more b x z)) (w .2)
-          (record {
-            own = more c x (value (v .0));
-            derives = letToo (j .derives) u (v .1);
-            matches = fits-more Γ c b x (value (v .0)) (value (w .0)) (j .matches) (v .0, y .0, h, y .1, y .2);
-            settled = (j .settled, f, subst (Normal (extend Γ (structure b)) (w .0)) same (o .2))
-          })
+        (record {
+          own = more c x (value (v .0));
+          derives = letToo (j .derives) u (v .1);
+          matches = fits-more Γ c b x (value (v .0)) (value (w .0)) (j .matches) (v .0, y .0, h, y .1, y .2);
+          settled = (j .settled, f, subst (Normal (extend Γ (structure b)) (w .0)) same (o .2));
+        })
     checkItem-checks (moduleItem m) Γ is b x d e j e+ u f q =
         let w = was-some nested (check rule (extend Γ (structure b)) m) d q in
         let c = j .own in
@@ -282,10 +280,10 @@ module _ {C : Type 0} (n : ℕ) (rule : Operation → List Ty → Outcome C) (la
         let s = o .0 in
         let h = last-has Γ c x (nested s) (undeclared-none (j .derives) aModule x u) in
         subst (λ z. ChecksAll rule Γ (moreItems is x (moduleItem m)) (more b x z)) (w .2)
-          (record {
-            own = more c x (nested s);
-            derives = moduleToo (j .derives) u (o .1);
-            matches = fits-more Γ c b x (nested s) (nested (w .0)) (j .matches)
+        (record {
+          own = more c x (nested s);
+          derives = moduleToo (j .derives) u (o .1);
+          matches = fits-more Γ c b x (nested s) (nested (w .0)) (j .matches)
               (at-fits (has-at h) (fits-finer (longer-extend Γ c x (nested s)) (fits-trans (o .2) (fits-finer k (i .matches)))));
-            settled = (j .settled, f, i .settled)
-          })
+          settled = (j .settled, f, i .settled);
+        })

@@ -2,18 +2,16 @@
 -- outside functors, so that no normal form names it, and it behaves as the path.
 use mathlib.Core.Path.{_≡_, refl, sym, _∙_, ap, ap₂, subst, subst₂}
 use mathlib.Core.Logic.{_⊎_, inl, inr}
-use Prim.Native.Nat.{ℕ, zero, suc}
-use Rattle.std.specs.declared.option.Option.{Option}
 use Rattle.std.specs.declared.option.Option.the-variants.{Some, None}
-use Rattle.types.specs.Types.{Name, Head, unit, binder, ModulePath, at, dot, named, Ty, leaf, label0, label1, label2}
+use Rattle.types.specs.Types.{Name, ModulePath, at, dot, named, Ty, leaf, label1, label2}
 use Rattle.rules.specs.Signatures.{Sort, aType, aValue, aModule, Signature, structure, functor, Components, empty, more, Declaration, abstract, defined, value, nested, sortOf, find, onSome}
-use Rattle.rules.specs.Substitution.{Substitution, under, outward, innermost, onPath, out, lift, reading, onType, onSignature, onComponents, onDeclaration}
+use Rattle.rules.specs.Substitution.{Substitution, under, innermost, onPath, out, lift, reading, onType, onSignature, onComponents, onDeclaration}
 use Rattle.rules.specs.Lookup.{Env, extend, At, head, inside, Has, Normal, opaque, unfolds, bare, part, parts}
 use Rattle.rules.specs.Strengthening.{strengthen, strengthenAll, strengthenOne}
-use Rattle.rules.proofs.Algebra.{after, path-comp, signature-comp, signature-id, signature-reading-out, signature-reading-on, declaration-reading-on, components-reading-on, components-reading-lift, components-fresh}
+use Rattle.rules.proofs.Algebra.{after, path-comp, signature-comp, signature-id, signature-reading-out, declaration-reading-on, components-reading-on, components-reading-lift, components-fresh}
 use Rattle.rules.proofs.Finding.{clash, find-cases, find-off, find-on-some, at-unique, has-unique, normal-unique, normal-normal}
-use Rattle.rules.proofs.Inner.{Typed, Gives, gStructure, gFunctor, GivesAll, gNone, Fits, fStructure, fFunctor, Proper, ProperAll, ProperOne, ProperEnv}
-use Rattle.rules.proofs.Along.{was-nested, was-value, was-some, normal-along, typed-along, abstract-along}
+use Rattle.rules.proofs.Inner.{Gives, gStructure, gFunctor, GivesAll, gNone, Fits, fStructure, Proper, ProperAll, ProperOne, ProperEnv}
+use Rattle.rules.proofs.Along.{was-nested, was-value, normal-along, typed-along, abstract-along}
 use Rattle.rules.proofs.Exact.{at-weaken, gives-weaken}
 use Rattle.rules.proofs.Transitive.{Knows, knows-laws, knows-gives, GivesOne, gives-last, gives-more, fits-trans}
 use Rattle.rules.proofs.Knowing.{Along, id-along, out-along, weaken-along, under-along, reading-along, then-along}
@@ -86,7 +84,7 @@ fresh-transparent : {q : ModulePath} → Fresh q → (Γ : Env) (g s : Signature
 fresh-transparent freshHead Γ g s w (head e) = subst Transparent (some-is e) (transparent-on g out w)
 fresh-transparent (freshDot {p = q} {x = x} f) Γ g s w (inside c d a found r) =
     subst Transparent r
-      (transparent-on d (reading q) (transparent-found c (fresh-transparent f Γ g (structure c) w a) aModule x (nested d) found))
+    (transparent-on d (reading q) (transparent-found c (fresh-transparent f Γ g (structure c) w a) aModule x (nested d) found))
 
 abstract-not-fresh : (Γ : Env) (g : Signature) → Transparent g → (q : ModulePath) (x : Name) → Has (extend Γ g) q aType x abstract → (o : ModulePath) × (onPath out o ≡ q)
 abstract-not-fresh Γ g w q x h = go (split q)
@@ -170,29 +168,31 @@ module _ (Γ : Env) (p : ModulePath) (s : Signature) (e : ProperEnv Γ) (a : At 
   Twin q t = At Γz q (strengthen (onPath κ q) t) × At Γz (onPath κ q) (onSignature κ t)
 
   twin-start : Twin innermost (onSignature out s)
-  twin-start =
-      (subst (At Γz innermost) (strengthen-on s out p) (head refl),
-       subst (At Γz (onPath out p)) (sym (signature-outside s)) (at-weaken g a))
+  twin-start = (
+    subst (At Γz innermost) (strengthen-on s out p) (head refl),
+    subst (At Γz (onPath out p)) (sym (signature-outside s)) (at-weaken g a),
+  )
 
   twin-component :
       (q : ModulePath) (c : Components) → Twin q (structure c) → (o : Sort) (x : Name) (d : Declaration) → find o x c ≡ Some d →
       Has Γz q o x (strengthenOne (onPath κ q) x (onDeclaration (reading q) d)) × Has Γz (onPath κ q) o x (onDeclaration κ (onDeclaration (reading q) d))
   twin-component q c w o x d f =
-      let q′ = onPath κ q in
-      (record {
-         components = strengthenAll (onPath out q′) c;
-         declared = strengthenOne (onPath out q′) x d;
-         leads = w .0;
-         found = strengthen-find (onPath out q′) o x c ∙ ap (onSome (strengthenOne (onPath out q′) x)) f;
-         reads = strengthenOne-on d (reading q) (onPath out q′) x ∙ ap (λ z. strengthenOne z x (onDeclaration (reading q) d)) (path-reading-out q q′)
-       },
-       record {
-         components = onComponents (lift κ) c;
-         declared = onDeclaration (lift κ) d;
-         leads = w .1;
-         found = find-on-some (lift κ) o x c d f;
-         reads = sym (declaration-reading-on κ q d)
-       })
+      let q′ = onPath κ q in (
+        record {
+          components = strengthenAll (onPath out q′) c;
+          declared = strengthenOne (onPath out q′) x d;
+          leads = w .0;
+          found = strengthen-find (onPath out q′) o x c ∙ ap (onSome (strengthenOne (onPath out q′) x)) f;
+          reads = strengthenOne-on d (reading q) (onPath out q′) x ∙ ap (λ z. strengthenOne z x (onDeclaration (reading q) d)) (path-reading-out q q′);
+        },
+        record {
+          components = onComponents (lift κ) c;
+          declared = onDeclaration (lift κ) d;
+          leads = w .1;
+          found = find-on-some (lift κ) o x c d f;
+          reads = sym (declaration-reading-on κ q d);
+        },
+      )
 
   -- what the other path has is declared here too
   twin-has : (q : ModulePath) (c : Components) → Twin q (structure c) → (o : Sort) (x : Name) (d : Declaration) → Has Γz (onPath κ q) o x d → (b : Declaration) × (find o x c ≡ Some b)
@@ -216,9 +216,9 @@ module _ (Γ : Env) (p : ModulePath) (s : Signature) (e : ProperEnv Γ) (a : At 
         let shape = was-structure κ u b (at-unique (v .1) at′) in
         let v′ = subst (Twin q) (shape .1) v in
         let m′ : GivesAll Γz (onPath κ q) (onComponents κ (onComponents (under q θ) c)) =
-              subst (GivesAll Γz (onPath κ q)) (sym (components-reading-on κ q (onComponents (lift θ) c)) ∙ ap (onComponents κ) (components-reading-lift q θ c)) m in
+        subst (GivesAll Γz (onPath κ q)) (sym (components-reading-on κ q (onComponents (lift θ) c)) ∙ ap (onComponents κ) (components-reading-lift q θ c)) m in
         gStructure (strengthenAll (onPath out (onPath κ q)) (shape .0)) (v′ .0)
-          (subst (GivesAll Γz q) (sym (components-reading-lift q θ c)) (backAll c Γ″ θ q (shape .0) w k v′ m′))
+        (subst (GivesAll Γz q) (sym (components-reading-lift q θ c)) (backAll c Γ″ θ q (shape .0) w k v′ m′))
     back (functor t r) Γ″ θ q u w k v (gFunctor f at′ m) =
         go u v (subst (λ z. Fits Γz z (onSignature κ (onSignature θ (functor t r)))) (at-unique at′ (v .1)) m)
       where
@@ -228,12 +228,12 @@ module _ (Γ : Env) (p : ModulePath) (s : Signature) (e : ProperEnv Γ) (a : At 
         go (structure _) v m = elim m [ ]
         go (functor t₁ r₁) v m =
             let first : Fits Γz (functor t₁ r₁) (onSignature κ (functor t₁ r₁)) =
-                  subst (λ z. Fits Γz z (onSignature κ (functor t₁ r₁))) (signature-id (functor t₁ r₁))
-                    (proper-fits (functor t₁ r₁) Γz Γz at κ (proper-at proper-z (v .0)) (id-along Γz) along-κ (agree-clear Γz at (id-along Γz))) in
+            subst (λ z. Fits Γz z (onSignature κ (functor t₁ r₁))) (signature-id (functor t₁ r₁))
+            (proper-fits (functor t₁ r₁) Γz Γz at κ (proper-at proper-z (v .0)) (id-along Γz) along-κ (agree-clear Γz at (id-along Γz))) in
             let last : Fits Γz (onSignature κ (onSignature θ (functor t r))) (onSignature θ (functor t r)) =
-                  subst (λ z. Fits Γz z (onSignature θ (functor t r))) (sym (signature-comp κ θ (functor t r)))
-                    (proper-fits (functor t r) Γ″ Γz (after κ θ) θ w (then-along Γ″ Γz Γz κ θ k along-κ) k
-                      (Rattle.rules.proofs.Reflexive.agree-sym Γ″ θ (after κ θ) Γz (agree-clear Γ″ θ k))) in
+            subst (λ z. Fits Γz z (onSignature θ (functor t r))) (sym (signature-comp κ θ (functor t r)))
+            (proper-fits (functor t r) Γ″ Γz (after κ θ) θ w (then-along Γ″ Γz Γz κ θ k along-κ) k
+            (Rattle.rules.proofs.Reflexive.agree-sym Γ″ θ (after κ θ) Γz (agree-clear Γ″ θ k))) in
             gFunctor (functor t₁ r₁) (v .0) (fits-trans first (fits-trans m last))
 
     backAll :
@@ -245,9 +245,9 @@ module _ (Γ : Env) (p : ModulePath) (s : Signature) (e : ProperEnv Γ) (a : At 
         let y = gives-last Γz (onPath κ q) (onComponents κ (onComponents θ+ c)) x (onDeclaration κ (onDeclaration θ+ d)) m in
         let before = backAll c Γ″ θ q u (w .0) k v (y .0) in
         let k+ : Along θ+ (extend Γ″ (structure c)) Γz =
-              under-along θ Γ″ Γz q (structure c) k
-                (knows-gives
-                  (gStructure (strengthenAll (onPath out (onPath κ q)) u) (v .0) (subst (GivesAll Γz q) (sym (components-reading-lift q θ c)) before))) in
+        under-along θ Γ″ Γz q (structure c) k
+        (knows-gives
+        (gStructure (strengthenAll (onPath out (onPath κ q)) u) (v .0) (subst (GivesAll Γz q) (sym (components-reading-lift q θ c)) before))) in
         gives-more Γz q (onComponents θ+ c) x (onDeclaration θ+ d) before (backOne d (extend Γ″ (structure c)) θ+ q u x (w .2) k+ v (y .1))
 
     backOne :
@@ -297,7 +297,7 @@ gives-strengthened (structure b) (structure c) Γ p e a w m =
     let Γ+ = extend Γ g′ in
     let κ′ = after out (reading p) in
     let m⁺ : Gives Γ+ (onPath out p) (onSignature κ′ (onSignature out (structure c))) =
-          subst (Gives Γ+ (onPath out p)) (sym (signature-outside Γ p (structure b) e a (structure c))) (gives-weaken g′ m) in
+    subst (Gives Γ+ (onPath out p)) (sym (signature-outside Γ p (structure b) e a (structure c))) (gives-weaken g′ m) in
     fits-back Γ (strengthenAll (onPath out p) b) c
-      (back Γ p (structure b) e a (structure c) Γ out innermost (onSignature out (structure b)) w (out-along Γ g′)
-        (twin-start Γ p (structure b) e a) m⁺)
+    (back Γ p (structure b) e a (structure c) Γ out innermost (onSignature out (structure b)) w (out-along Γ g′)
+    (twin-start Γ p (structure b) e a) m⁺)

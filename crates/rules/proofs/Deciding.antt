@@ -1,19 +1,19 @@
 -- The matching function tells whether a settled signature matches.
-use mathlib.Core.Path.{_≡_, refl, sym, _∙_, ap, ap₂, subst, subst₂}
-use mathlib.Core.Bool.{Bool, true, false, cond, _&&_}
+use mathlib.Core.Path.{_≡_, refl, sym, _∙_, ap, ap₂, subst}
+use mathlib.Core.Bool.{Bool, true, _&&_}
 use Prim.Native.Nat.{ℕ, zero, suc, _+_, _≤_}
 use native.Mathlib.Omega.{arith}
 use native.Mathlib.Nat.{le-refl}
 use Rattle.std.specs.declared.option.Option.{Option}
 use Rattle.std.specs.declared.option.Option.the-variants.{Some, None}
-use Rattle.types.specs.Types.{Name, ModulePath, at, dot, named, Ty, leaf, same}
-use Rattle.rules.specs.Signatures.{Sort, aType, aValue, aModule, Signature, structure, functor, Components, empty, more, Declaration, abstract, defined, value, nested, sortOf, find, onSome, extent, extentAll, extentOne}
-use Rattle.rules.specs.Substitution.{Substitution, under, innermost, onPath, out, lift, reading, onType, onSignature, onComponents, onDeclaration}
-use Rattle.rules.specs.Lookup.{Env, extend, At, head, Has, Normal}
+use Rattle.types.specs.Types.{Name, ModulePath, dot, named, Ty, leaf, same}
+use Rattle.rules.specs.Signatures.{aType, aValue, aModule, Signature, structure, functor, Components, empty, more, Declaration, abstract, defined, value, nested, find, extent, extentAll, extentOne}
+use Rattle.rules.specs.Substitution.{Substitution, under, innermost, out, lift, reading, onType, onSignature, onComponents, onDeclaration}
+use Rattle.rules.specs.Lookup.{Env, extend, At, head}
 use Rattle.rules.specs.Checker.{given, declared, lookup, normalType, normalize, isStructure, sameForm, normalValue, offered, offeredAll, offeredOne, matchesTo, doesMatch}
 use Rattle.rules.proofs.Algebra.{components-id, components-reading-lift, extent-on}
-use Rattle.rules.proofs.Finding.{clash, extent-found, at-unique, has-unique}
-use Rattle.rules.proofs.Inner.{Typed, Gives, gStructure, gFunctor, GivesAll, gNone, Fits, fStructure, fFunctor, Proper, ProperAll, ProperOne, ProperEnv}
+use Rattle.rules.proofs.Finding.{clash, extent-found, at-unique}
+use Rattle.rules.proofs.Inner.{Gives, gStructure, gFunctor, GivesAll, gNone, Fits, fStructure, fFunctor, Proper, ProperAll, ProperOne}
 use Rattle.rules.proofs.Along.{was-nested}
 use Rattle.rules.proofs.Exact.{under-fresh}
 use Rattle.rules.proofs.Transitive.{knows-gives, GivesOne, gives-last, gives-more, fits-trans}
@@ -77,12 +77,12 @@ module _ (f : Env → Signature → Signature → Bool) (tell : Tells f) where
         let g = is-structure (lookup Γ p) (b .0) in
         let a = lookup-at Γ p (structure (g .0)) (g .1) in
         gStructure (g .0) a
-          (subst (GivesAll Γ p) (sym (components-reading-lift p θ c)) (offeredAll-gives c Γ′ Γ θ p (g .0) e w k a (b .1)))
+        (subst (GivesAll Γ p) (sym (components-reading-lift p θ c)) (offeredAll-gives c Γ′ Γ θ p (g .0) e w k a (b .1)))
     offered-gives (functor s r) Γ′ Γ θ p e w k q =
         let g = given-true (lookup Γ p) (λ g. f Γ g (onSignature θ (functor s r))) q in
         let a = lookup-at Γ p (g .0) (g .1) in
         gFunctor (g .0) a
-          (tell Γ (g .0) (onSignature θ s) (onSignature (lift θ) r) e (settled-at e a) (proper-along (functor s r) Γ′ Γ θ k w) (g .2))
+        (tell Γ (g .0) (onSignature θ s) (onSignature (lift θ) r) e (settled-at e a) (proper-along (functor s r) Γ′ Γ θ k w) (g .2))
 
     pub offeredAll-gives :
         (c : Components) (Γ′ Γ : Env) (θ : Substitution) (p : ModulePath) (g : Components) → SettledEnv Γ → ProperAll Γ′ c → Along θ Γ′ Γ →
@@ -92,9 +92,9 @@ module _ (f : Env → Signature → Signature → Bool) (tell : Tells f) where
         let b = both-true (offeredAll f Γ p (under p θ) c) (offeredOne f Γ p (under p θ) x d) q in
         let m = offeredAll-gives c Γ′ Γ θ p g e (w .0) k a (b .0) in
         let k+ = under-along θ Γ′ Γ p (structure c) k
-              (knows-gives (gStructure g a (subst (GivesAll Γ p) (sym (components-reading-lift p θ c)) m))) in
+        (knows-gives (gStructure g a (subst (GivesAll Γ p) (sym (components-reading-lift p θ c)) m))) in
         gives-more Γ p (onComponents (under p θ) c) x (onDeclaration (under p θ) d) m
-          (offeredOne-gives d (extend Γ′ (structure c)) Γ (under p θ) p x e (w .2) k+ (b .1))
+        (offeredOne-gives d (extend Γ′ (structure c)) Γ (under p θ) p x e (w .2) k+ (b .1))
 
     offeredOne-gives :
         (d : Declaration) (Γ′ Γ : Env) (θ : Substitution) (p : ModulePath) (x : Name) → SettledEnv Γ → ProperOne Γ′ d → Along θ Γ′ Γ →
@@ -122,14 +122,14 @@ module _ (n : ℕ) (f : Env → Signature → Signature → Bool) (found : Finds
         let i = ap extent same in
         let l′ : extentAll b + extentAll c ≤ n = omega arith in
         ap₂ (λ y z. isStructure y && z) (at-lookup a′)
-          (givesAll-offered c Γ′ Γ θ p b e w k a′ l′ (subst (GivesAll Γ p) (components-reading-lift p θ c) m))
+        (givesAll-offered c Γ′ Γ θ p b e w k a′ l′ (subst (GivesAll Γ p) (components-reading-lift p θ c) m))
     gives-offered (functor s r) Γ′ Γ θ p g e w k a l (gFunctor b a′ m) =
         let same : g ≡ b = at-unique a a′ in
         let i = ap extent same in
         let j = extent-on θ (functor s r) in
         let l′ : extent b + extent (onSignature θ (functor s r)) ≤ n = omega arith in
         given-is (lookup Γ p) (λ g. f Γ g (onSignature θ (functor s r))) b (at-lookup a′)
-          (found Γ b (onSignature θ s) (onSignature (lift θ) r) e (settled-at e a′) (proper-along (functor s r) Γ′ Γ θ k w) l′ m)
+        (found Γ b (onSignature θ s) (onSignature (lift θ) r) e (settled-at e a′) (proper-along (functor s r) Γ′ Γ θ k w) l′ m)
 
     givesAll-offered :
         (c : Components) (Γ′ Γ : Env) (θ : Substitution) (p : ModulePath) (g : Components) → SettledEnv Γ → ProperAll Γ′ c → Along θ Γ′ Γ →
@@ -138,11 +138,11 @@ module _ (n : ℕ) (f : Env → Signature → Signature → Bool) (found : Finds
     givesAll-offered (more c x d) Γ′ Γ θ p g e w k a l m =
         let v = gives-last Γ p (onComponents (under p θ) c) x (onDeclaration (under p θ) d) m in
         let k+ = under-along θ Γ′ Γ p (structure c) k
-              (knows-gives (gStructure g a (subst (GivesAll Γ p) (sym (components-reading-lift p θ c)) (v .0)))) in
+        (knows-gives (gStructure g a (subst (GivesAll Γ p) (sym (components-reading-lift p θ c)) (v .0)))) in
         let l₁ : extentAll g + extentAll c ≤ n = omega arith in
         let l₂ : extentAll g + extentOne d ≤ n = omega arith in
         ap₂ (λ y z. y && z) (givesAll-offered c Γ′ Γ θ p g e (w .0) k a l₁ (v .0))
-          (givesOne-offered d (extend Γ′ (structure c)) Γ (under p θ) p x g e (w .2) k+ a l₂ (v .1))
+        (givesOne-offered d (extend Γ′ (structure c)) Γ (under p θ) p x g e (w .2) k+ a l₂ (v .1))
 
     givesOne-offered :
         (d : Declaration) (Γ′ Γ : Env) (θ : Substitution) (p : ModulePath) (x : Name) (g : Components) → SettledEnv Γ → ProperOne Γ′ d → Along θ Γ′ Γ →
@@ -153,7 +153,7 @@ module _ (n : ℕ) (f : Env → Signature → Signature → Bool) (found : Finds
         form-same (normalType Γ (leaf (named p x))) (normalType Γ (onType θ t)) (m .0) (type-normal e (m .1)) (type-normal e (m .2))
     givesOne-offered (value t) Γ′ Γ θ p x g e w k a l m =
         given-is (declared p aValue x (lookup Γ p)) (λ d. sameForm (normalValue Γ d) (normalType Γ (onType θ t))) (value (m .0)) (has-declared (m .2))
-          (form-same (normalType Γ (m .0)) (normalType Γ (onType θ t)) (m .1) (type-normal e (m .3)) (type-normal e (m .4)))
+        (form-same (normalType Γ (m .0)) (normalType Γ (onType θ t)) (m .1) (type-normal e (m .3)) (type-normal e (m .4)))
     givesOne-offered (nested s) Γ′ Γ θ p x g e w k a l m =
         let b = gives-at m in
         let i = below-extent Γ p x g (b .0) a (b .1) in
@@ -165,9 +165,9 @@ matches-tells zero Γ a b e w v q = clash (cc)
 matches-tells (suc n) Γ (structure g) (structure c) e w v q =
     let Γ+ = extend Γ (structure g) in
     let q′ : offeredAll (matchesTo n) Γ+ innermost (under innermost out) c ≡ true =
-          subst (λ θ. offeredAll (matchesTo n) Γ+ innermost θ c ≡ true) (sym under-fresh) q in
+    subst (λ θ. offeredAll (matchesTo n) Γ+ innermost θ c ≡ true) (sym under-fresh) q in
     let m = offeredAll-gives (matchesTo n) (λ Γ g s r. matches-tells n Γ g (functor s r)) c Γ Γ+ out innermost (onComponents (lift out) g)
-          (settled-extend Γ (structure g) e w) v (out-along Γ (structure g)) (head refl) q′ in
+    (settled-extend Γ (structure g) e w) v (out-along Γ (structure g)) (head refl) q′ in
     fStructure (subst (GivesAll Γ+ innermost) (ap (λ θ. onComponents θ c) under-fresh ∙ components-id c) m)
 matches-tells (suc n) Γ (structure g) (functor s r) e w v q = clash (cc)
 matches-tells (suc n) Γ (functor s r) (structure c) e w v q = clash (cc)
@@ -181,7 +181,7 @@ matches-tells (suc n) Γ (functor s r) (functor s′ r′) e w v q =
     let e+ = settled-extend Γ a e (i .settled) in
     let j = normalize-is r (extend Γ a) (z .0) e+ (z .1) in
     let second = matches-tells n (extend Γ a) (z .0) r′ e+ (j .settled)
-          (proper-finer (extend Γ s′) (extend Γ a) r′ (fits-along-fresh Γ a s′ (i .back)) (v .1)) (z .2) in
+    (proper-finer (extend Γ s′) (extend Γ a) r′ (fits-along-fresh Γ a s′ (i .back)) (v .1)) (z .2) in
     fFunctor (fits-trans (i .forth) first) (fits-finer (fits-along-fresh Γ s′ a (i .forth)) (fits-trans (j .forth) second))
 
 pub matches-found :
@@ -193,9 +193,9 @@ matches-found (suc n) Γ (structure g) (structure c) e w v l (fStructure m) =
     let i = extent-on out (structure g) in
     let l′ : extentAll (onComponents (lift out) g) + extentAll c ≤ n = omega arith in
     subst (λ θ. offeredAll (matchesTo n) Γ+ innermost θ c ≡ true) under-fresh
-      (givesAll-offered n (matchesTo n) (λ Γ g s r. matches-found n Γ g (functor s r)) c Γ Γ+ out innermost (onComponents (lift out) g)
-        (settled-extend Γ (structure g) e w) v (out-along Γ (structure g)) (head refl) l′
-        (subst (GivesAll Γ+ innermost) (sym (ap (λ θ. onComponents θ c) under-fresh ∙ components-id c)) m))
+    (givesAll-offered n (matchesTo n) (λ Γ g s r. matches-found n Γ g (functor s r)) c Γ Γ+ out innermost (onComponents (lift out) g)
+    (settled-extend Γ (structure g) e w) v (out-along Γ (structure g)) (head refl) l′
+    (subst (GivesAll Γ+ innermost) (sym (ap (λ θ. onComponents θ c) under-fresh ∙ components-id c)) m))
 matches-found (suc n) Γ (structure g) (functor s r) e w v l m = elim m [ ]
 matches-found (suc n) Γ (functor s r) (structure c) e w v l m = elim m [ ]
 matches-found (suc n) Γ (functor s r) (functor s′ r′) e w v l (fFunctor p q) =
@@ -212,11 +212,11 @@ matches-found (suc n) Γ (functor s r) (functor s′ r′) e w v l (fFunctor p q
     let l₁ : extent a + extent s ≤ n = omega arith in
     let l₂ : extent b + extent r′ ≤ n = omega arith in
     given-is (normalize Γ s′) (λ a. matchesTo n Γ a s && given (normalize (extend Γ a) r) (λ b. matchesTo n (extend Γ a) b r′)) a (x .1)
-      (ap₂ (λ y z. y && z) (matches-found n Γ a s e (i .settled) (settled-proper s Γ (w .0)) l₁ p′)
-        (given-is (normalize (extend Γ a) r) (λ b. matchesTo n (extend Γ a) b r′) b (y .1)
-          (matches-found n (extend Γ a) b r′ e+ (j .settled)
-            (proper-finer (extend Γ s′) (extend Γ a) r′ (fits-along-fresh Γ a s′ (i .back)) (v .1)) l₂
-            (fits-trans (j .back) (fits-finer (fits-along-fresh Γ a s′ (i .back)) q)))))
+    (ap₂ (λ y z. y && z) (matches-found n Γ a s e (i .settled) (settled-proper s Γ (w .0)) l₁ p′)
+    (given-is (normalize (extend Γ a) r) (λ b. matchesTo n (extend Γ a) b r′) b (y .1)
+    (matches-found n (extend Γ a) b r′ e+ (j .settled)
+    (proper-finer (extend Γ s′) (extend Γ a) r′ (fits-along-fresh Γ a s′ (i .back)) (v .1)) l₂
+    (fits-trans (j .back) (fits-finer (fits-along-fresh Γ a s′ (i .back)) q)))))
 
 pub match-tells : (Γ : Env) (a b : Signature) → SettledEnv Γ → Settled Γ a → Proper Γ b → doesMatch Γ a b ≡ true → Fits Γ a b
 match-tells Γ a b = matches-tells (extent a + extent b) Γ a b

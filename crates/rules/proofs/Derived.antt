@@ -1,26 +1,25 @@
 -- What is derived is proper; without the free rule it is one.
-use mathlib.Core.Path.{_≡_, refl, sym, _∙_, ap, ap₂, subst, subst₂}
+use mathlib.Core.Path.{_≡_, refl, sym, ap, ap₂, subst}
 use mathlib.Core.Bool.{Bool, true, false, cond, _&&_}
-use mathlib.Core.List.{List, [], _∷_}
-use Prim.Native.Nat.{ℕ, zero}
+use mathlib.Core.List.{List, []}
+use Prim.Native.Nat.{ℕ}
 use Rattle.std.specs.shelf.Text.{sameBytes}
 use Rattle.std.proofs.shelf.Equals.{sameBytes-decides}
-use Rattle.std.specs.declared.option.Option.{Option}
 use Rattle.std.specs.declared.option.Option.the-variants.{Some, None}
-use Rattle.types.specs.Types.{Name, ModulePath, at, Ty}
-use Rattle.cores.specs.Meaning.{Outcome, gives, Stable}
+use Rattle.types.specs.Types.{Name, ModulePath, Ty}
+use Rattle.cores.specs.Meaning.{Outcome, Stable}
 use Rattle.cores.specs.declared.interface.Operation.{Operation}
-use Rattle.rules.specs.Signatures.{Sort, aType, aValue, aModule, Signature, structure, functor, Components, empty, more, Declaration, abstract, defined, value, nested, sortOf, sameSort, firstOf, find}
+use Rattle.rules.specs.Signatures.{Sort, aType, aValue, aModule, Signature, structure, functor, Components, more, Declaration, defined, value, nested, sortOf, sameSort, firstOf, find}
 use Rattle.rules.specs.Substitution.{reading, onSignature}
-use Rattle.rules.specs.Lookup.{Env, extend, At, Has, Normal}
+use Rattle.rules.specs.Lookup.{Env, extend, At}
 use Rattle.rules.specs.Matching.{Matches}
 use Rattle.rules.specs.Strengthening.{strengthen}
-use Rattle.rules.specs.Syntax.{Module, Items, noItems, moreItems, Item, typeItem, letItem, moduleItem, signatureOf, typeOf}
-use Rattle.rules.specs.Rules.{itemSort, Undeclared, TermHas, Derives, byPath, byItems, byFunctor, byApplication, bySignature, byMatching, DerivesAll, noItem, typeToo, letToo, moduleToo}
+use Rattle.rules.specs.Syntax.{Module, Items, signatureOf, typeOf}
+use Rattle.rules.specs.Rules.{Undeclared, TermHas, Derives, byPath, byItems, byFunctor, byApplication, bySignature, byMatching, DerivesAll, noItem, typeToo, letToo, moduleToo}
 use Rattle.rules.proofs.Finding.{clash, sameSort-is, at-unique}
-use Rattle.rules.proofs.Inner.{Typed, Gives, Fits, Proper, ProperAll, ProperOne, ProperEnv}
+use Rattle.rules.proofs.Inner.{Gives, Proper, ProperAll, ProperEnv}
 use Rattle.rules.proofs.Transitive.{knows-gives}
-use Rattle.rules.proofs.Knowing.{Along, id-along, reading-along}
+use Rattle.rules.proofs.Knowing.{id-along, reading-along}
 use Rattle.rules.proofs.Properness.{proper-at, proper-along, proper-extend}
 use Rattle.rules.proofs.Strengthened.{proper-strengthen, strengthened-gives}
 use Rattle.rules.proofs.Wording.{leads-typed, sound-proper, matches-fits}

@@ -1,5 +1,5 @@
 -- The tests of sameness tell equality.
-use mathlib.Core.Path.{_≡_, refl, sym, _∙_, ap, ap₂}
+use mathlib.Core.Path.{_≡_, refl, ap, ap₂}
 use mathlib.Core.Bool.{Bool, true, false, _&&_}
 use Prim.Native.Nat.{ℕ}
 use native.Mathlib.Omega.{arith}
@@ -51,7 +51,6 @@ samePath-self (dot p x) = ap₂ (λ a b. a && b) (samePath-self p) (sameBytes-se
 pub sameLeaf-self : (a : Leaf) → sameLeaf a a ≡ true
 sameLeaf-self (named p x) = ap₂ (λ a b. a && b) (samePath-self p) (sameBytes-self x)
 sameLeaf-self (numbered n) = eqb-self n
-
 
 pub same-is : (t u : Ty) → same t u ≡ true → t ≡ u
 same-is (leaf x) (leaf y) e = ap leaf (sameLeaf-is x y e)

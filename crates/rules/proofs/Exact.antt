@@ -1,16 +1,15 @@
 -- Substitutions along which what is known is exactly the same, or a structure with more components behind: weakening.
 use mathlib.Core.Path.{_≡_, refl, sym, _∙_, ap, subst, fun-ext}
-use Prim.Native.Nat.{ℕ, zero, suc}
-use Rattle.std.specs.declared.option.Option.{Option}
-use Rattle.std.specs.declared.option.Option.the-variants.{Some, None}
-use Rattle.types.specs.Types.{Name, Head, unit, binder, ModulePath, at, dot, named, Ty, leaf}
-use Rattle.rules.specs.Signatures.{Sort, aType, aValue, aModule, Signature, structure, functor, Components, empty, more, Declaration, abstract, defined, value, nested, find, onSome}
+use Prim.Native.Nat.{zero, suc}
+use Rattle.std.specs.declared.option.Option.the-variants.{Some}
+use Rattle.types.specs.Types.{Name, Head, unit, binder, ModulePath, at, dot, named, leaf}
+use Rattle.rules.specs.Signatures.{Sort, aType, aValue, aModule, Signature, structure, functor, Components, Declaration, abstract, defined, value, nested, find, onSome}
 use Rattle.rules.specs.Substitution.{Substitution, under, outward, innermost, onPath, out, lift, reading, onType, onSignature, onComponents, onDeclaration}
-use Rattle.rules.specs.Lookup.{Env, extend, At, head, inside, Has, Normal, opaque, unfolds, bare, part, parts}
-use Rattle.rules.proofs.Algebra.{after, signature-comp, signature-reading-on, type-reading-on, components-fresh, components-id, signature-id, type-id, path-id}
-use Rattle.rules.proofs.Finding.{clash, find-on-some, find-begins, begins-on, Begins, all}
-use Rattle.rules.proofs.Inner.{Typed, Gives, gStructure, gFunctor, GivesAll, Fits, fStructure, fFunctor}
-use Rattle.rules.proofs.Along.{Laws, From, extend-cases, under-from, gives-along, givesAll-along, fits-along, normal-along}
+use Rattle.rules.specs.Lookup.{Env, extend, At, head, inside, Has, opaque, unfolds}
+use Rattle.rules.proofs.Algebra.{signature-reading-on, components-fresh}
+use Rattle.rules.proofs.Finding.{find-on-some, find-begins, begins-on, Begins, all}
+use Rattle.rules.proofs.Inner.{Gives, gStructure, gFunctor, GivesAll, Fits, fStructure, fFunctor}
+use Rattle.rules.proofs.Along.{Laws, From, under-from, gives-along, fits-along}
 
 -- the same signature, or a structure that begins with the other's components
 pub data Longer : Signature → Signature → Type 0 where
@@ -43,7 +42,7 @@ pub at-exactly :
 at-exactly (head {h = h} {s = s} e) θ Γ k = k h s e
 at-exactly (inside {p = p} {x = x} c d a f r) θ Γ k =
     inside (onComponents (lift θ) c) (onSignature (lift θ) d) (at-exactly a θ Γ k) (find-on-some (lift θ) aModule x c (nested d) f)
-      (sym (signature-reading-on θ p d) ∙ ap (onSignature θ) r)
+    (sym (signature-reading-on θ p d) ∙ ap (onSignature θ) r)
 
 pub at-weaken : {Γ : Env} (g : Signature) {q : ModulePath} {s : Signature} → At Γ q s → At (extend Γ g) (onPath out q) (onSignature out s)
 at-weaken {Γ} g a = at-exactly a out (extend Γ g) (λ h t e. head (known-outward Γ g h t e))
@@ -85,15 +84,15 @@ exact-functor Γ q (functor s₁ r₁) s r k m = go (k .0) (k .1) (k .2)
 
 pub exact-laws : Laws Exact
 exact-laws = record {
-    exact = λ Γ h s e. exact-at (head e);
-    below = exact-below;
-    isStructure = exact-structure;
-    ofAbstract = λ Γ q c x k f. (leaf (named q x), opaque (exact-has Γ q c aType x abstract k f));
-    ofDefined = λ Γ q c x t n k f m. unfolds (onType (reading q) t) (exact-has Γ q c aType x (defined t) k f) m;
-    ofValue = λ Γ q c x t n k f m. (onType (reading q) t, exact-has Γ q c aValue x (value t) k f, m);
-    ofFunctor = exact-functor;
-    weaken = λ Γ g q s k. (onSignature out (k .0), at-weaken g (k .1), longer-on out (k .2))
-  }
+  exact = λ Γ h s e. exact-at (head e);
+  below = exact-below;
+  isStructure = exact-structure;
+  ofAbstract = λ Γ q c x k f. (leaf (named q x), opaque (exact-has Γ q c aType x abstract k f));
+  ofDefined = λ Γ q c x t n k f m. unfolds (onType (reading q) t) (exact-has Γ q c aType x (defined t) k f) m;
+  ofValue = λ Γ q c x t n k f m. (onType (reading q) t, exact-has Γ q c aValue x (value t) k f, m);
+  ofFunctor = exact-functor;
+  weaken = λ Γ g q s k. (onSignature out (k .0), at-weaken g (k .1), longer-on out (k .2));
+}
 
 -- into an environment with one more binder
 pub out-from : (K : Env → ModulePath → Signature → Type 0) → Laws K → (Γ : Env) (g : Signature) → From K out Γ (extend Γ g)
@@ -127,4 +126,4 @@ pub narrow-from :
     K (extend Γ a) innermost (onSignature out b) → From K at (extend Γ b) (extend Γ a)
 narrow-from K L Γ a b k =
     subst (λ θ. From K θ (extend Γ b) (extend Γ a)) under-fresh
-      (under-from K L out Γ (extend Γ a) innermost b (out-from K L Γ a) k)
+    (under-from K L out Γ (extend Γ a) innermost b (out-from K L Γ a) k)

@@ -1,30 +1,29 @@
 -- The mismatch that is told is the first.
-use mathlib.Core.Path.{_≡_, refl, sym, _∙_, ap, ap₂, subst, subst₂}
-use mathlib.Core.Bool.{Bool, true, false, cond, _&&_}
+use mathlib.Core.Path.{_≡_, refl, sym, _∙_, ap, ap₂, subst}
+use mathlib.Core.Bool.{Bool, true, false}
 use Prim.Native.Nat.{ℕ, zero, suc, _+_, _≤_}
 use native.Mathlib.Omega.{arith}
 use native.Mathlib.Nat.{le-refl}
 use Rattle.std.specs.declared.option.Option.{Option}
 use Rattle.std.specs.declared.option.Option.the-variants.{Some, None}
-use Rattle.types.specs.Types.{Name, unit, ModulePath, at, dot, named, Ty, leaf}
-use Rattle.rules.specs.Signatures.{Sort, aType, aValue, aModule, Signature, structure, functor, Components, empty, more, Declaration, abstract, defined, value, nested, sortOf, find, firstOf, extent, extentAll, extentOne}
-use Rattle.rules.specs.Substitution.{Substitution, under, innermost, onPath, out, lift, reading, onType, onSignature, onComponents, onDeclaration}
-use Rattle.rules.specs.Lookup.{Env, extend, At, head, Has, Normal, Same}
+use Rattle.types.specs.Types.{Name, ModulePath, dot, named, Ty, leaf}
+use Rattle.rules.specs.Signatures.{aType, aValue, aModule, Signature, structure, functor, Components, empty, more, Declaration, abstract, defined, value, nested, firstOf, extent, extentAll, extentOne}
+use Rattle.rules.specs.Substitution.{Substitution, under, innermost, out, lift, onType, onSignature, onComponents, onDeclaration}
+use Rattle.rules.specs.Lookup.{Env, extend, At, head, Has, Same}
 use Rattle.rules.specs.Checker.{declared, lookup, normalType, normalValue, normalize, sameForm, matchesTo}
-use Rattle.rules.specs.Matching.{OffersAll, Matches}
+use Rattle.rules.specs.Matching.{OffersAll}
 use Rattle.rules.specs.Faults.{Mismatch, fails, ifThere, ifStructure, ifSame, lacks, lacksAll, lacksOne, ifNormal, mismatchTo, mismatch}
 use Rattle.rules.specs.Failures.{Tidy, nothingYet, aUnit, aBinder, FirstFailure, inStructure, functorWanted, structureWanted, inParameter, inResult, FirstLack, earlier, absent, otherValue, otherType, inModule, ModuleLacks, notStructure, inComponents, againstFunctor}
-use Rattle.rules.proofs.Algebra.{components-id, components-reading-lift, extent-on, sort-on}
-use Rattle.rules.proofs.Finding.{clash, has-unique}
-use Rattle.rules.proofs.Inner.{Gives, gStructure, GivesAll, Fits, Proper, ProperAll, ProperOne}
+use Rattle.rules.proofs.Algebra.{components-id, components-reading-lift, extent-on}
+use Rattle.rules.proofs.Finding.{clash}
+use Rattle.rules.proofs.Inner.{gStructure, GivesAll, Proper, ProperAll, ProperOne}
 use Rattle.rules.proofs.Exact.{under-fresh}
-use Rattle.rules.proofs.Transitive.{knows-gives, fits-trans}
+use Rattle.rules.proofs.Transitive.{knows-gives}
 use Rattle.rules.proofs.Knowing.{Along, out-along, under-along}
 use Rattle.rules.proofs.Properness.{proper-along, proper-finer, has-sort}
-use Rattle.rules.proofs.Converse.{at-has}
 use Rattle.rules.proofs.Wording.{givesAll-offers, fits-matches}
-use Rattle.rules.proofs.Equality.{both-true, same-self}
-use Rattle.rules.proofs.Settling.{Settled, SettledEnv, settled-proper, settled-env-proper, settled-extend, settled-at, lookup-at, at-lookup, declared-has, has-declared, normal-type, type-normal}
+use Rattle.rules.proofs.Equality.{same-self}
+use Rattle.rules.proofs.Settling.{Settled, SettledEnv, settled-proper, settled-extend, settled-at, lookup-at, at-lookup, declared-has, has-declared, type-normal}
 use Rattle.rules.proofs.Normalizing.{fits-along-fresh, normalize-is, normalize-proper}
 use Rattle.rules.proofs.Deciding.{Tells, offeredAll-gives, below-extent, matches-tells}
 use Rattle.rules.proofs.Checked.{unit-settled, none-settled}
@@ -84,13 +83,13 @@ module _ (n : ℕ) (f : Env → Option Name → Signature → Signature → Opti
         let l₁ : extentAll g + extentAll c ≤ n = omega arith in
         let l₂ : extentAll g + extentOne d ≤ n = omega arith in
         first-cases (lacksAll f Γ p (under p θ) c) (lacksOne f Γ p (under p θ) x d) m q (FirstLack Γ p (onComponents (under p θ) (more c x d)) m)
-          (λ q′. earlier (lacksAll-first c Γ′ Γ θ p g m e (v .0) k a l₁ q′))
-          (λ none′ q′.
-            let t = sym (lacksAll-is f b is c Γ p (under p θ)) ∙ none-is (lacksAll f Γ p (under p θ) c) none′ in
-            let given′ = offeredAll-gives b tell c Γ′ Γ θ p g e (v .0) k a t in
-            let k+ = under-along θ Γ′ Γ p (structure c) k
-                  (knows-gives (gStructure g a (subst (GivesAll Γ p) (sym (components-reading-lift p θ c)) given′))) in
-            lacksOne-first d (extend Γ′ (structure c)) Γ (under p θ) p g (onComponents (under p θ) c) x m e (v .2) k+ a l₂ (givesAll-offers given′) q′)
+        (λ q′. earlier (lacksAll-first c Γ′ Γ θ p g m e (v .0) k a l₁ q′))
+        (λ none′ q′.
+        let t = sym (lacksAll-is f b is c Γ p (under p θ)) ∙ none-is (lacksAll f Γ p (under p θ) c) none′ in
+        let given′ = offeredAll-gives b tell c Γ′ Γ θ p g e (v .0) k a t in
+        let k+ = under-along θ Γ′ Γ p (structure c) k
+        (knows-gives (gStructure g a (subst (GivesAll Γ p) (sym (components-reading-lift p θ c)) given′))) in
+        lacksOne-first d (extend Γ′ (structure c)) Γ (under p θ) p g (onComponents (under p θ) c) x m e (v .2) k+ a l₂ (givesAll-offers given′) q′)
 
     lacksOne-first :
         (d : Declaration) (Γ′ Γ : Env) (θ : Substitution) (p : ModulePath) (g c : Components) (x : Name) (m : Mismatch) → SettledEnv Γ → ProperOne Γ′ d →
@@ -101,23 +100,25 @@ module _ (n : ℕ) (f : Env → Option Name → Signature → Signature → Opti
         go : (z : Option Declaration) → declared p aType x (lookup Γ p) ≡ z → ifThere (Some x) z (λ d. None) ≡ Some m → FirstLack Γ p (more c x abstract) m
         go None i q =
             subst (FirstLack Γ p (more c x abstract)) (some-is q)
-              (absent o (λ h′ h. let j = has-declared h in clash (cc)))
+            (absent o (λ h′ h. let j = has-declared h in clash (cc)))
         go (Some h) i q = clash (cc)
     lacksOne-first (defined t) Γ′ Γ θ p g c x m e v k a l o q = go (declared p aType x (lookup Γ p)) refl q
       where
         test : Bool
         test = sameForm (normalType Γ (leaf (named p x))) (normalType Γ (onType θ t))
+
         differs : (z : Bool) → test ≡ z → (h : Declaration) → Has Γ p aType x h → ifSame (Some x) 3 z ≡ Some m → FirstLack Γ p (more c x (defined (onType θ t))) m
         differs true i h j q = clash (cc)
         differs false i h j q =
             subst (FirstLack Γ p (more c x (defined (onType θ t)))) (some-is q)
-              (otherType h o j (λ s. let y = same-true Γ (leaf (named p x)) (onType θ t) e s in clash (cc)))
+            (otherType h o j (λ s. let y = same-true Γ (leaf (named p x)) (onType θ t) e s in clash (cc)))
+
         go :
             (z : Option Declaration) → declared p aType x (lookup Γ p) ≡ z →
             ifThere (Some x) z (λ d. ifSame (Some x) 3 test) ≡ Some m → FirstLack Γ p (more c x (defined (onType θ t))) m
         go None i q =
             subst (FirstLack Γ p (more c x (defined (onType θ t)))) (some-is q)
-              (absent o (λ h′ h. let j = has-declared h in clash (cc)))
+            (absent o (λ h′ h. let j = has-declared h in clash (cc)))
         go (Some h) i q = differs test refl h (declared-has Γ p aType x h i) q
     lacksOne-first (value t) Γ′ Γ θ p g c x m e v k a l o q = go (declared p aValue x (lookup Γ p)) refl q
       where
@@ -130,14 +131,15 @@ module _ (n : ℕ) (f : Env → Option Name → Signature → Signature → Opti
         differs (value u) j true i q = clash (cc)
         differs (value u) j false i q =
             subst (FirstLack Γ p (more c x (value (onType θ t)))) (some-is q)
-              (otherValue u o j (λ s. let y = same-true Γ u (onType θ t) e s in clash (cc)))
+            (otherValue u o j (λ s. let y = same-true Γ u (onType θ t) e s in clash (cc)))
+
         go :
             (z : Option Declaration) → declared p aValue x (lookup Γ p) ≡ z →
             ifThere (Some x) z (λ d. ifSame (Some x) 2 (sameForm (normalValue Γ d) (normalType Γ (onType θ t)))) ≡ Some m →
             FirstLack Γ p (more c x (value (onType θ t))) m
         go None i q =
             subst (FirstLack Γ p (more c x (value (onType θ t)))) (some-is q)
-              (absent o (λ h′ h. let j = has-declared h in clash (cc)))
+            (absent o (λ h′ h. let j = has-declared h in clash (cc)))
         go (Some h) i q = differs h (declared-has Γ p aValue x h i) (sameForm (normalValue Γ h) (normalType Γ (onType θ t))) refl q
     lacksOne-first (nested s) Γ′ Γ θ p g c x m e v k a l o q =
         go (lookup Γ (dot p x)) refl (lacks-first s Γ′ Γ θ (dot p x) (Some x))
@@ -145,15 +147,16 @@ module _ (n : ℕ) (f : Env → Option Name → Signature → Signature → Opti
         go :
             (z : Option Signature) → lookup Γ (dot p x) ≡ z →
             ((h : Signature) (m : Mismatch) → SettledEnv Γ → Proper Γ′ s → Along θ Γ′ Γ → At Γ (dot p x) h → extent h + extent s ≤ n →
-              lacks f Γ (dot p x) θ (Some x) s ≡ Some m → ModuleLacks Γ (dot p x) (Some x) h (onSignature θ s) m) →
+            lacks f Γ (dot p x) θ (Some x) s ≡ Some m → ModuleLacks Γ (dot p x) (Some x) h (onSignature θ s) m) →
             FirstLack Γ p (more c x (nested (onSignature θ s))) m
         go None i ih =
             subst (FirstLack Γ p (more c x (nested (onSignature θ s)))) (some-is (missing s i ∙ q))
-              (absent o (λ h′ h. nowhere h′ h i))
+            (absent o (λ h′ h. nowhere h′ h i))
           where
             missing : (s : Signature) → lookup Γ (dot p x) ≡ None → fails (Some x) 1 ≡ lacks f Γ (dot p x) θ (Some x) s
             missing (structure c) i = sym (ap (λ o. ifThere (Some x) o (ifStructure (Some x) (lacksAll f Γ (dot p x) (under (dot p x) θ) c))) i)
             missing (functor s r) i = sym (ap (λ o. ifThere (Some x) o (λ g. f Γ (Some x) g (onSignature θ (functor s r)))) i)
+
             nowhere : (h′ : Declaration) → Has Γ p aModule x h′ → lookup Γ (dot p x) ≡ None → ⊥
             nowhere abstract h i = let y = has-sort h in clash (cc)
             nowhere (defined u) h i = let y = has-sort h in clash (cc)
@@ -178,11 +181,11 @@ failure-first (suc n) Γ w (structure g) (structure c) m e u v l q =
     let i = extent-on out (structure g) in
     let l′ : extentAll (onComponents (lift out) g) + extentAll c ≤ n = omega arith in
     let q′ : lacksAll (mismatchTo n) Γ+ innermost (under innermost out) c ≡ Some m =
-          subst (λ θ. lacksAll (mismatchTo n) Γ+ innermost θ c ≡ Some m) (sym under-fresh) q in
+    subst (λ θ. lacksAll (mismatchTo n) Γ+ innermost θ c ≡ Some m) (sym under-fresh) q in
     inStructure
-      (subst (λ z. FirstLack Γ+ innermost z m) (ap (λ θ. onComponents θ c) under-fresh ∙ components-id c)
-        (lacksAll-first n (mismatchTo n) (matchesTo n) (mismatch-is n) (tells-to n) (λ Γ w g s r. failure-first n Γ w g (functor s r)) c Γ Γ+ out innermost
-          (onComponents (lift out) g) m (settled-extend Γ (structure g) e u) v (out-along Γ (structure g)) (head refl) l′ q′))
+    (subst (λ z. FirstLack Γ+ innermost z m) (ap (λ θ. onComponents θ c) under-fresh ∙ components-id c)
+    (lacksAll-first n (mismatchTo n) (matchesTo n) (mismatch-is n) (tells-to n) (λ Γ w g s r. failure-first n Γ w g (functor s r)) c Γ Γ+ out innermost
+    (onComponents (lift out) g) m (settled-extend Γ (structure g) e u) v (out-along Γ (structure g)) (head refl) l′ q′))
 failure-first (suc n) Γ w (structure g) (functor s r) m e u v l q = subst (FirstFailure Γ w (structure g) (functor s r)) (some-is q) functorWanted
 failure-first (suc n) Γ w (functor s r) (structure c) m e u v l q = subst (FirstFailure Γ w (functor s r) (structure c)) (some-is q) structureWanted
 failure-first (suc n) Γ w (functor s r) (functor s′ r′) m e u v l q =
@@ -194,22 +197,22 @@ failure-first (suc n) Γ w (functor s r) (functor s′ r′) m e u v l q =
     let l₁ : extent a + extent s ≤ n = omega arith in
     let ps = settled-proper (functor s r) Γ u in
     let q′ : firstOf (mismatchTo n Γ w a s) (ifNormal w (normalize (extend Γ a) r) (λ b. mismatchTo n (extend Γ a) w b r′)) ≡ Some m =
-          sym (ap (λ o. ifNormal w o (λ a. firstOf (mismatchTo n Γ w a s) (ifNormal w (normalize (extend Γ a) r) (λ b. mismatchTo n (extend Γ a) w b r′)))) (x .1)) ∙ q in
+    sym (ap (λ o. ifNormal w o (λ a. firstOf (mismatchTo n Γ w a s) (ifNormal w (normalize (extend Γ a) r) (λ b. mismatchTo n (extend Γ a) w b r′)))) (x .1)) ∙ q in
     first-cases (mismatchTo n Γ w a s) (ifNormal w (normalize (extend Γ a) r) (λ b. mismatchTo n (extend Γ a) w b r′)) m q′
-      (FirstFailure Γ w (functor s r) (functor s′ r′) m)
-      (λ f. inParameter a (x .1) (failure-first n Γ w a s m e (i .settled) (ps .0) l₁ f))
-      (λ none′ f.
-        let t = sym (mismatch-is n Γ w a s) ∙ none-is (mismatchTo n Γ w a s) none′ in
-        let p = matches-tells n Γ a s e (i .settled) (ps .0) t in
-        let y = normalize-proper r (extend Γ a) e+ (proper-finer (extend Γ s) (extend Γ a) r (fits-along-fresh Γ a s p) (ps .1)) in
-        let b = y .0 in
-        let j = normalize-is r (extend Γ a) b e+ (y .1) in
-        let jb = j .extents in
-        let l₂ : extent b + extent r′ ≤ n = omega arith in
-        let f′ : mismatchTo n (extend Γ a) w b r′ ≡ Some m = sym (ap (λ o. ifNormal w o (λ b. mismatchTo n (extend Γ a) w b r′)) (y .1)) ∙ f in
-        inResult a b (x .1) (fits-matches p) (y .1)
-          (failure-first n (extend Γ a) w b r′ m e+ (j .settled)
-            (proper-finer (extend Γ s′) (extend Γ a) r′ (fits-along-fresh Γ a s′ (i .back)) (v .1)) l₂ f′))
+    (FirstFailure Γ w (functor s r) (functor s′ r′) m)
+    (λ f. inParameter a (x .1) (failure-first n Γ w a s m e (i .settled) (ps .0) l₁ f))
+    (λ none′ f.
+    let t = sym (mismatch-is n Γ w a s) ∙ none-is (mismatchTo n Γ w a s) none′ in
+    let p = matches-tells n Γ a s e (i .settled) (ps .0) t in
+    let y = normalize-proper r (extend Γ a) e+ (proper-finer (extend Γ s) (extend Γ a) r (fits-along-fresh Γ a s p) (ps .1)) in
+    let b = y .0 in
+    let j = normalize-is r (extend Γ a) b e+ (y .1) in
+    let jb = j .extents in
+    let l₂ : extent b + extent r′ ≤ n = omega arith in
+    let f′ : mismatchTo n (extend Γ a) w b r′ ≡ Some m = sym (ap (λ o. ifNormal w o (λ b. mismatchTo n (extend Γ a) w b r′)) (y .1)) ∙ f in
+    inResult a b (x .1) (fits-matches p) (y .1)
+    (failure-first n (extend Γ a) w b r′ m e+ (j .settled)
+    (proper-finer (extend Γ s′) (extend Γ a) r′ (fits-along-fresh Γ a s′ (i .back)) (v .1)) l₂ f′))
 
 pub mismatch-first :
     (Γ : Env) → Tidy Γ → (a b : Signature) → normalize Γ a ≡ Some a → Proper Γ b → (m : Mismatch) → mismatch Γ a b ≡ Some m → FirstFailure Γ None a b m

@@ -2,17 +2,17 @@
 use mathlib.Core.Path.{_≡_, refl, sym, _∙_, ap, ap₂, subst}
 use mathlib.Core.Bool.{Bool, true, false, cond, _&&_}
 use mathlib.Core.Logic.{_⊎_, inl, inr}
-use Prim.Native.Nat.{ℕ, suc, _+_, _≤_}
+use Prim.Native.Nat.{ℕ, _+_, _≤_}
 use native.Mathlib.Omega.{arith}
 use Rattle.std.specs.shelf.Text.{sameBytes}
 use Rattle.std.proofs.shelf.Equals.{sameBytes-decides}
 use Rattle.std.specs.declared.option.Option.{Option}
 use Rattle.std.specs.declared.option.Option.the-variants.{Some, None}
-use Rattle.types.specs.Types.{Name, Head, ModulePath, at, dot, named, Ty, leaf, label0, label1, label2}
-use Rattle.rules.specs.Signatures.{Sort, aType, aValue, aModule, Signature, structure, functor, Components, empty, more, Declaration, abstract, defined, value, nested, sortOf, sameSort, firstOf, onSome, find, extent, extentAll, extentOne}
-use Rattle.rules.specs.Substitution.{Substitution, reading, onSignature, onComponents, onDeclaration}
+use Rattle.types.specs.Types.{Name, ModulePath, Ty, label1, label2}
+use Rattle.rules.specs.Signatures.{Sort, aType, aValue, aModule, Signature, Components, empty, more, Declaration, defined, sortOf, sameSort, firstOf, onSome, find, extentAll, extentOne}
+use Rattle.rules.specs.Substitution.{Substitution, onComponents, onDeclaration}
 use Rattle.rules.specs.Lookup.{Env, At, head, inside, Has, Normal, opaque, unfolds, bare, part, parts}
-use Rattle.rules.proofs.Algebra.{find-on, sort-on}
+use Rattle.rules.proofs.Algebra.{find-on}
 
 -- a clash of constructors proves anything
 pub clash : {A : Type 0} → _≡_ {A = ℕ} 0 1 → A

@@ -1,14 +1,13 @@
 -- Paths under one more binder: either they begin at it, or they are paths from outside.
-use mathlib.Core.Path.{_≡_, refl, sym, _∙_, ap, ap₂, subst, subst₂}
+use mathlib.Core.Path.{_≡_, refl, _∙_, ap, subst}
 use mathlib.Core.Logic.{_⊎_, inl, inr}
-use Prim.Native.Nat.{ℕ, zero, suc}
-use Rattle.std.specs.declared.option.Option.{Option}
-use Rattle.std.specs.declared.option.Option.the-variants.{Some, None}
-use Rattle.types.specs.Types.{Name, Head, unit, binder, ModulePath, at, dot, named, Ty, leaf}
-use Rattle.rules.specs.Signatures.{Sort, aType, aValue, aModule, Signature, structure, functor, Components, empty, more, Declaration, abstract, defined, value, nested, sortOf, find, onSome}
-use Rattle.rules.specs.Substitution.{Substitution, under, outward, innermost, onPath, out, lift, reading, onType, onSignature, onComponents, onDeclaration}
-use Rattle.rules.specs.Lookup.{Env, extend, At, head, inside, Has, Normal, opaque, unfolds}
-use Rattle.rules.proofs.Algebra.{after, signature-reading-on, declaration-reading-on}
+use Prim.Native.Nat.{zero, suc}
+use Rattle.std.specs.declared.option.Option.the-variants.{Some}
+use Rattle.types.specs.Types.{Name, unit, binder, ModulePath, at, dot}
+use Rattle.rules.specs.Signatures.{Sort, aType, aModule, Signature, structure, functor, Components, Declaration, abstract, nested, find}
+use Rattle.rules.specs.Substitution.{Substitution, under, onPath, out, lift, reading, onSignature, onComponents, onDeclaration}
+use Rattle.rules.specs.Lookup.{Env, extend, At, head, inside, Has}
+use Rattle.rules.proofs.Algebra.{signature-reading-on, declaration-reading-on}
 use Rattle.rules.proofs.Finding.{clash, find-off}
 use Rattle.rules.proofs.Along.{was-some, was-nested, was-abstract}
 
@@ -46,10 +45,11 @@ at-outside (dot p x) Γ g s (inside c d a f r) =
     let v = was-structure out (w .0) c (w .2) in
     let f′ : find aModule x (onComponents (lift out) (v .0)) ≡ Some (nested d) = ap (find aModule x) (v .2) ∙ f in
     let y = find-off (lift out) aModule x (v .0) (nested d) f′ in
-    let z = was-nested (lift out) (y .0) d (y .2) in
-    (onSignature (reading p) (z .0),
-     inside (v .0) (z .0) (subst (At Γ p) (v .1) (w .1)) (y .1 ∙ ap Some (z .1)) refl,
-     signature-reading-on out p (z .0) ∙ (ap (onSignature (reading (onPath out p))) (z .2) ∙ r))
+    let z = was-nested (lift out) (y .0) d (y .2) in (
+      onSignature (reading p) (z .0),
+      inside (v .0) (z .0) (subst (At Γ p) (v .1) (w .1)) (y .1 ∙ ap Some (z .1)) refl,
+      signature-reading-on out p (z .0) ∙ (ap (onSignature (reading (onPath out p))) (z .2) ∙ r),
+    )
 
 pub has-outside :
     (p : ModulePath) (Γ : Env) (g : Signature) (s : Sort) (x : Name) (d : Declaration) → Has (extend Γ g) (onPath out p) s x d →
@@ -59,10 +59,11 @@ has-outside p Γ g s x d h =
     let w = at-outside p Γ g (structure c) (h .leads) in
     let v = was-structure out (w .0) c (w .2) in
     let f′ : find s x (onComponents (lift out) (v .0)) ≡ Some (h .declared) = ap (find s x) (v .2) ∙ h .found in
-    let y = find-off (lift out) s x (v .0) (h .declared) f′ in
-    (onDeclaration (reading p) (y .0),
-     record { components = v .0; declared = y .0; leads = subst (At Γ p) (v .1) (w .1); found = y .1; reads = refl },
-     declaration-reading-on out p (y .0) ∙ (ap (onDeclaration (reading (onPath out p))) (y .2) ∙ h .reads))
+    let y = find-off (lift out) s x (v .0) (h .declared) f′ in (
+      onDeclaration (reading p) (y .0),
+      record { components = v .0; declared = y .0; leads = subst (At Γ p) (v .1) (w .1); found = y .1; reads = refl },
+      declaration-reading-on out p (y .0) ∙ (ap (onDeclaration (reading (onPath out p))) (y .2) ∙ h .reads),
+    )
 
 pub abstract-outside : (p : ModulePath) (Γ : Env) (g : Signature) (x : Name) → Has (extend Γ g) (onPath out p) aType x abstract → Has Γ p aType x abstract
 abstract-outside p Γ g x h =

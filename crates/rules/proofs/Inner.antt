@@ -1,10 +1,9 @@
 -- Matching and soundness again, in a wording that proofs need: where an abstract type is wanted, or a path to a type is asked for,
 -- there is a normal form. In sound environments this is the same as the wording of the rules.
 use mathlib.Core.Path.{_≡_}
-use Rattle.std.specs.declared.option.Option.{Option}
 use Rattle.std.specs.declared.option.Option.the-variants.{Some, None}
 use Rattle.types.specs.Types.{Name, Head, ModulePath, dot, named, Ty, leaf}
-use Rattle.rules.specs.Signatures.{aType, aValue, sortOf, Signature, structure, functor, Components, empty, more, Declaration, abstract, defined, value, nested, find}
+use Rattle.rules.specs.Signatures.{aValue, sortOf, Signature, structure, functor, Components, empty, more, Declaration, abstract, defined, value, nested, find}
 use Rattle.rules.specs.Substitution.{innermost, reading, onComponents}
 use Rattle.rules.specs.Lookup.{Env, extend, At, Has, Normal}
 

@@ -1,18 +1,15 @@
 -- Lookup, normal forms and matching where what is known at each head is exactly the same or is given.
-use mathlib.Core.Path.{_≡_, refl, sym, _∙_, ap, ap₂, subst, subst₂}
-use Prim.Native.Nat.{ℕ, zero, suc}
-use Rattle.std.specs.declared.option.Option.{Option}
-use Rattle.std.specs.declared.option.Option.the-variants.{Some, None}
-use Rattle.types.specs.Types.{Name, Head, unit, binder, ModulePath, at, dot, named, Ty, leaf}
-use Rattle.rules.specs.Signatures.{Sort, aType, aValue, aModule, Signature, structure, functor, Components, empty, more, Declaration, abstract, defined, value, nested, sortOf, find}
-use Rattle.rules.specs.Substitution.{Substitution, under, innermost, onPath, out, lift, reading, onType, onSignature, onComponents, onDeclaration}
-use Rattle.rules.specs.Lookup.{Env, extend, At, head, inside, Has, Normal}
+use mathlib.Core.Path.{sym, subst, subst₂}
+use Rattle.types.specs.Types.{ModulePath, at, Ty}
+use Rattle.rules.specs.Signatures.{Signature, structure, functor, Components}
+use Rattle.rules.specs.Substitution.{Substitution, under, innermost, onPath, out, lift, reading, onSignature, onComponents, onDeclaration}
+use Rattle.rules.specs.Lookup.{Env, extend, At, Normal}
 use Rattle.rules.proofs.Algebra.{after, signature-comp, signature-id, components-id, type-id, path-id}
-use Rattle.rules.proofs.Inner.{Typed, Gives, gStructure, gFunctor, GivesAll, Fits, fStructure, fFunctor}
-use Rattle.rules.proofs.Along.{Laws, From, under-from, weaken-from, lift-from, at-along, normal-along, typed-along, gives-along, givesAll-along, fits-along}
-use mathlib.Core.Logic.{_⊎_, inl, inr}
+use Rattle.rules.proofs.Inner.{Typed, Gives, gStructure, GivesAll, Fits, fStructure}
+use Rattle.rules.proofs.Along.{From, under-from, weaken-from, lift-from, at-along, normal-along, gives-along, givesAll-along, fits-along}
+use mathlib.Core.Logic.{inl, inr}
 use Rattle.rules.proofs.Finding.{Begins, all, onward}
-use Rattle.rules.proofs.Exact.{Exact, exact-at, Longer, longer, alike, longer-on, fits-fresh, narrow-from, out-from}
+use Rattle.rules.proofs.Exact.{exact-at, Longer, longer, alike, longer-on, narrow-from, out-from}
 use Rattle.rules.proofs.Transitive.{Upto, Knows, knows-laws, knows-gives, knows-exact, gives-last}
 
 abbrev pub Along : Substitution → Env → Env → Type 0

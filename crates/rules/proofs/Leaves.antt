@@ -1,13 +1,12 @@
 -- The core's law at leaves: what a rule gives for types it gives for their normal forms in another environment.
-use mathlib.Core.Path.{_≡_, refl, sym, _∙_, ap, ap₂, subst, subst₂}
-use mathlib.Core.Bool.{Bool, true, false, cond, _&&_}
+use mathlib.Core.Path.{_≡_, refl, sym, _∙_, ap, ap₂, subst}
+use mathlib.Core.Bool.{Bool, true, false, cond}
 use mathlib.Core.List.{List, [], _∷_, _++_, map}
 use mathlib.Core.Logic.{_⊎_, inl, inr}
-use Prim.Native.Nat.{ℕ, zero, suc}
-use native.Mathlib.Omega.{arith}
+use Prim.Native.Nat.{ℕ}
 use lib.Dec.{ltb}
-use Rattle.types.specs.Types.{Name, Head, unit, binder, ModulePath, at, dot, Leaf, named, numbered, Ty, leaf, label0, label1, label2, replace, replaceOpaque, sameLeaf}
-use Rattle.cores.specs.Meaning.{Outcome, gives, refuses, Stable}
+use Rattle.types.specs.Types.{Leaf, named, Ty, leaf, label0, label1, label2, replace, replaceOpaque, sameLeaf}
+use Rattle.cores.specs.Meaning.{Outcome, gives, Stable}
 use Rattle.cores.specs.declared.interface.Operation.{Operation}
 use Rattle.rules.specs.Lookup.{Env, Normal, opaque, unfolds, bare, part, parts}
 use Rattle.rules.proofs.Finding.{clash, normal-unique}
@@ -176,7 +175,7 @@ rule-along n rule law {Γ} {ts} {ns} ms o t e =
     let w = tables ms in
     let ρ : Ty → Leaf → Ty = look Γ (w .0) in
     let with : (d : Ty) → rule o ns ≡ gives (replace (ρ d) t) =
-          λ d. ap (rule o) (sym (map-replace-is ms (w .0) d (w .1))) ∙ leaf-law n rule law (ρ d) o ts t e in
+    λ d. ap (rule o) (sym (map-replace-is ms (w .0) d (w .1))) ∙ leaf-law n rule law (ρ d) o ts t e in
     let same : replace (ρ (label0 0)) t ≡ replace (ρ (label0 1)) t =
-          gives-is (replace (ρ (label0 0)) t) (replace (ρ (label0 1)) t) (sym (with (label0 0)) ∙ with (label0 1)) in
+    gives-is (replace (ρ (label0 0)) t) (replace (ρ (label0 1)) t) (sym (with (label0 0)) ∙ with (label0 1)) in
     (replace (ρ (label0 0)) t, with (label0 0), two-tables Γ (w .0) t same)

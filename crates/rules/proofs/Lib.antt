@@ -24,8 +24,9 @@ pub mod Checking
 pub mod Checked
 pub mod Mirror
 pub mod Failing
+pub mod Positions
+pub mod Numbering
 pub mod Refusing
 pub mod Tidying
-pub mod Numbering
 pub mod Theorems
 pub mod Sampling

@@ -1,5 +1,5 @@
 -- The checker with faults says what the checker without them says, but for sizes.
-use mathlib.Core.Path.{_≡_, refl, sym, _∙_, ap, ap₂, subst, subst₂}
+use mathlib.Core.Path.{_≡_, refl, _∙_, ap, ap₂, subst}
 use mathlib.Core.Bool.{Bool, true, false, cond, _&&_}
 use mathlib.Core.List.{List, [], _∷_, map}
 use Prim.Native.Nat.{ℕ, zero, suc, _+_}
@@ -11,17 +11,17 @@ use Rattle.types.specs.Types.{Name, Head, unit, ModulePath, at, dot, named, Ty,
 use Rattle.cores.specs.Meaning.{Outcome, gives, refuses}
 use Rattle.cores.specs.declared.interface.Operation.{Operation}
 use Rattle.cores.specs.declared.interface.Operation.the-variants.{Literal, Function, Operator}
-use Rattle.rules.specs.Signatures.{Sort, aType, aValue, Signature, structure, functor, Components, empty, more, Declaration, abstract, defined, value, nested, sortOf, find, firstOf, onSome, extent}
+use Rattle.rules.specs.Signatures.{aType, aValue, Signature, structure, functor, Components, empty, more, Declaration, abstract, defined, value, nested, sortOf, find, firstOf, onSome, extent}
 use Rattle.rules.specs.Substitution.{Substitution, under, innermost, reading, onType, onSignature}
 use Rattle.rules.specs.Lookup.{Env, extend}
 use Rattle.rules.specs.Strengthening.{strengthen}
-use Rattle.rules.specs.Syntax.{TypeText, pathText, labelText0, labelText1, labelText2, typeOf, SignatureText, sigText, functorText, SpecTexts, noSpecs, moreSpecs, SpecText, abstractSpec, definedSpec, valueSpec, moduleSpec, signatureOf, componentsOf, declarationOf, Term, variable, component, integer, operation, lambda, Terms, noTerms, moreTerms, Module, modulePath, struct, functorOf, applied, ascribed, Items, noItems, moreItems, Item, typeItem, letItem, moduleItem, CompilationUnit}
+use Rattle.rules.specs.Syntax.{TypeText, pathText, labelText0, labelText1, labelText2, typeOf, SignatureText, sigText, functorText, SpecTexts, noSpecs, moreSpecs, SpecText, abstractSpec, definedSpec, valueSpec, moduleSpec, signatureOf, componentsOf, declarationOf, Term, variable, component, integer, operation, lambda, Terms, noTerms, moreTerms, Module, modulePath, struct, functorOf, applied, ascribed, Items, noItems, moreItems, Item, typeItem, letItem, moduleItem}
 use Rattle.rules.specs.Rules.{pick, itemSort}
 use Rattle.rules.specs.Environments.{withUnit}
 use Rattle.rules.specs.Projects.{Units, noUnits, moreUnits}
 use Rattle.rules.specs.Checker.{andThen, given, unless, declared, lookup, normalType, normalValue, normalize, normalizeAll, normalizeOne, isStructure, sameForm, offered, offeredAll, offeredOne, matchesTo, doesMatch, accepted, termType, termTypes, apply, check, checkAll, checkItem, checkUnits, put}
 use Rattle.rules.specs.Sizes.{signatureSize, componentsSize, smallType, smallSignature, inNumbers}
-use Rattle.rules.specs.Faults.{Mismatch, Fault, tooLarge, noFunctor, twice, noWay, next, must, mustNot, within, runType, runSignature, runSpecs, runSpec, fails, ifThere, ifStructure, ifSame, lacks, lacksAll, lacksOne, ifNormal, mismatchTo, mismatch, matched, told, ask, runTerm, runTerms, runPath, runApply, runModule, runItems, runItem, Known, oneMore, runUnit, UnitFault, inUnit, runUnits, runFit, isAccepted, isLarge, isSize, isUnitSize}
+use Rattle.rules.specs.Faults.{Mismatch, Fault, tooLarge, noFunctor, twice, noWay, next, must, mustNot, within, runType, runSignature, runSpecs, runSpec, ifThere, ifStructure, ifSame, lacks, lacksAll, lacksOne, ifNormal, mismatchTo, mismatch, matched, told, ask, runTerm, runTerms, runPath, runApply, runModule, runItems, runItem, Known, oneMore, runUnit, UnitFault, inUnit, runUnits, runFit, isAccepted, isSize, isUnitSize}
 use Rattle.rules.proofs.Finding.{clash}
 
 -- an answer with faults and one without: both accept the same, or both refuse, or a size is refused
@@ -77,24 +77,24 @@ type-agrees (labelText0 place l) Γ = a-within (smallType (label0 l)) place (lab
 type-agrees (labelText1 place l t) Γ = a-limit (type-agrees t Γ) (λ n. smallType (label1 l n)) place (label1 l)
 type-agrees (labelText2 place l t u) Γ =
     a-next (type-agrees t Γ) (λ n. next (runType Γ u) (λ m. within (smallType (label2 l n m)) (tooLarge place) (label2 l n m)))
-      (λ n. onSome (label2 l n) (normalType Γ (typeOf u)))
-      (λ n. a-limit (type-agrees u Γ) (λ m. smallType (label2 l n m)) place (label2 l n))
+    (λ n. onSome (label2 l n) (normalType Γ (typeOf u)))
+    (λ n. a-limit (type-agrees u Γ) (λ m. smallType (label2 l n m)) place (label2 l n))
 
 mutual
   pub signature-agrees : {C : Type 0} (t : SignatureText) (Γ : Env) → Agrees {C = C} (runSignature Γ t) (normalize Γ (signatureOf t))
   signature-agrees (sigText place c) Γ = a-limit (specs-agree c Γ) (λ b. smallSignature (structure b)) place structure
   signature-agrees (functorText place s r) Γ =
       a-next (signature-agrees s Γ) (λ a. next (runSignature (extend Γ a) r) (λ b. within (smallSignature (functor a b)) (tooLarge place) (functor a b)))
-        (λ a. onSome (functor a) (normalize (extend Γ a) (signatureOf r)))
-        (λ a. a-limit (signature-agrees r (extend Γ a)) (λ b. smallSignature (functor a b)) place (functor a))
+      (λ a. onSome (functor a) (normalize (extend Γ a) (signatureOf r)))
+      (λ a. a-limit (signature-agrees r (extend Γ a)) (λ b. smallSignature (functor a b)) place (functor a))
 
   pub specs-agree : {C : Type 0} (c : SpecTexts) (Γ : Env) → Agrees {C = C} (runSpecs Γ c) (normalizeAll Γ (componentsOf c))
   specs-agree noSpecs Γ = taken
   specs-agree (moreSpecs c x d) Γ =
       a-next (specs-agree c Γ)
-        (λ b. mustNot (twice x) (find (sortOf (declarationOf d)) x (componentsOf c)) (next (runSpec (extend Γ (structure b)) d) (λ e. Ok (more b x e))))
-        (λ b. unless (find (sortOf (declarationOf d)) x (componentsOf c)) (onSome (more b x) (normalizeOne (extend Γ (structure b)) (declarationOf d))))
-        (λ b. a-mustNot (twice x) (find (sortOf (declarationOf d)) x (componentsOf c)) (a-map (spec-agrees d (extend Γ (structure b))) (more b x)))
+      (λ b. mustNot (twice x) (find (sortOf (declarationOf d)) x (componentsOf c)) (next (runSpec (extend Γ (structure b)) d) (λ e. Ok (more b x e))))
+      (λ b. unless (find (sortOf (declarationOf d)) x (componentsOf c)) (onSome (more b x) (normalizeOne (extend Γ (structure b)) (declarationOf d))))
+      (λ b. a-mustNot (twice x) (find (sortOf (declarationOf d)) x (componentsOf c)) (a-map (spec-agrees d (extend Γ (structure b))) (more b x)))
 
   spec-agrees : {C : Type 0} (d : SpecText) (Γ : Env) → Agrees {C = C} (runSpec Γ d) (normalizeOne Γ (declarationOf d))
   spec-agrees abstractSpec Γ = taken
@@ -132,7 +132,7 @@ module _ (f : Env → Option Name → Signature → Signature → Option Mismatc
     lacks-is (structure c) Γ p θ w = structure-is w (lacksAll f Γ p (under p θ) c) (offeredAll g Γ p (under p θ) c) (lacksAll-is c Γ p (under p θ)) (lookup Γ p)
     lacks-is (functor s r) Γ p θ w =
         there-is w (lookup Γ p) (λ a. f Γ w a (onSignature θ (functor s r))) (λ a. g Γ a (onSignature θ (functor s r)))
-          (λ a. k Γ w a (onSignature θ (functor s r)))
+        (λ a. k Γ w a (onSignature θ (functor s r)))
 
     pub lacksAll-is : (c : Components) (Γ : Env) (p : ModulePath) (θ : Substitution) → isNone (lacksAll f Γ p θ c) ≡ offeredAll g Γ p θ c
     lacksAll-is empty Γ p θ = refl
@@ -144,7 +144,7 @@ module _ (f : Env → Option Name → Signature → Signature → Option Mismatc
     lacksOne-is (defined t) Γ p θ x = defined-is Γ p x (normalType Γ (onType θ t)) (declared p aType x (lookup Γ p))
     lacksOne-is (value t) Γ p θ x =
         there-is (Some x) (declared p aValue x (lookup Γ p)) (λ d. ifSame (Some x) 2 (sameForm (normalValue Γ d) (normalType Γ (onType θ t))))
-          (λ d. sameForm (normalValue Γ d) (normalType Γ (onType θ t))) (λ d. same-as (Some x) 2 (sameForm (normalValue Γ d) (normalType Γ (onType θ t))))
+        (λ d. sameForm (normalValue Γ d) (normalType Γ (onType θ t))) (λ d. same-as (Some x) 2 (sameForm (normalValue Γ d) (normalType Γ (onType θ t))))
     lacksOne-is (nested s) Γ p θ x = lacks-is s Γ (dot p x) θ (Some x)
 
 normal-there : (w : Option Name) (o : Option Signature) (f : Signature → Option Mismatch) (g : Signature → Bool) → ((a : Signature) → isNone (f a) ≡ g a) → isNone (ifNormal w o f) ≡ given o g
@@ -159,12 +159,12 @@ mismatch-is (suc n) Γ w (structure g) (functor s r) = refl
 mismatch-is (suc n) Γ w (functor s r) (structure c) = refl
 mismatch-is (suc n) Γ w (functor s r) (functor u v) =
     normal-there w (normalize Γ u)
-      (λ a. firstOf (mismatchTo n Γ w a s) (ifNormal w (normalize (extend Γ a) r) (λ b. mismatchTo n (extend Γ a) w b v)))
-      (λ a. matchesTo n Γ a s && given (normalize (extend Γ a) r) (λ b. matchesTo n (extend Γ a) b v))
-      (λ a. none-first (mismatchTo n Γ w a s) (ifNormal w (normalize (extend Γ a) r) (λ b. mismatchTo n (extend Γ a) w b v))
-        ∙ ap₂ (λ y z. y && z) (mismatch-is n Γ w a s)
-            (normal-there w (normalize (extend Γ a) r) (λ b. mismatchTo n (extend Γ a) w b v) (λ b. matchesTo n (extend Γ a) b v)
-              (λ b. mismatch-is n (extend Γ a) w b v)))
+    (λ a. firstOf (mismatchTo n Γ w a s) (ifNormal w (normalize (extend Γ a) r) (λ b. mismatchTo n (extend Γ a) w b v)))
+    (λ a. matchesTo n Γ a s && given (normalize (extend Γ a) r) (λ b. matchesTo n (extend Γ a) b v))
+    (λ a. none-first (mismatchTo n Γ w a s) (ifNormal w (normalize (extend Γ a) r) (λ b. mismatchTo n (extend Γ a) w b v))
+    ∙ ap₂ (λ y z. y && z) (mismatch-is n Γ w a s)
+    (normal-there w (normalize (extend Γ a) r) (λ b. mismatchTo n (extend Γ a) w b v) (λ b. matchesTo n (extend Γ a) b v)
+    (λ b. mismatch-is n (extend Γ a) w b v)))
 
 -- terms and modules
 module _ {C : Type 0} (rule : Operation → List Ty → Outcome C) where
@@ -177,7 +177,7 @@ module _ {C : Type 0} (rule : Operation → List Ty → Outcome C) where
   ask-agrees numbers place o ns = a-limited (told-agrees place (rule o ns) (rule o (map numbers ns))) smallType place
 
   mutual
-    term-agrees : (t : Term) (numbers : Ty → Ty) (Γ : Env) (Δ : List Ty) → Agrees (runTerm rule numbers Γ Δ t) (termType rule Γ Δ t)
+    pub term-agrees : (t : Term) (numbers : Ty → Ty) (Γ : Env) (Δ : List Ty) → Agrees (runTerm rule numbers Γ Δ t) (termType rule Γ Δ t)
     term-agrees (variable place k) numbers Γ Δ = a-must (noWay place) (andThen (pick Δ k) (normalType Γ))
     term-agrees (component place p x) numbers Γ Δ = a-must (noWay place) (andThen (declared p aValue x (lookup Γ p)) (normalValue Γ))
     term-agrees (integer place) numbers Γ Δ = ask-agrees numbers place Literal []
@@ -185,15 +185,15 @@ module _ {C : Type 0} (rule : Operation → List Ty → Outcome C) where
         a-next (terms-agree ts numbers Γ Δ) (ask rule numbers place (Operator k)) (λ ns. accepted (rule (Operator k) ns)) (ask-agrees numbers place (Operator k))
     term-agrees (lambda place t b) numbers Γ Δ =
         a-next (type-agrees t Γ) (λ a. next (runTerm rule numbers Γ (typeOf t ∷ Δ) b) (λ r. ask rule numbers place Function (a ∷ r ∷ [])))
-          (λ a. andThen (termType rule Γ (typeOf t ∷ Δ) b) (λ r. accepted (rule Function (a ∷ r ∷ []))))
-          (λ a. a-next (term-agrees b numbers Γ (typeOf t ∷ Δ)) (λ r. ask rule numbers place Function (a ∷ r ∷ [])) (λ r. accepted (rule Function (a ∷ r ∷ [])))
-            (λ r. ask-agrees numbers place Function (a ∷ r ∷ [])))
+        (λ a. andThen (termType rule Γ (typeOf t ∷ Δ) b) (λ r. accepted (rule Function (a ∷ r ∷ []))))
+        (λ a. a-next (term-agrees b numbers Γ (typeOf t ∷ Δ)) (λ r. ask rule numbers place Function (a ∷ r ∷ [])) (λ r. accepted (rule Function (a ∷ r ∷ [])))
+        (λ r. ask-agrees numbers place Function (a ∷ r ∷ [])))
 
-    terms-agree : (ts : Terms) (numbers : Ty → Ty) (Γ : Env) (Δ : List Ty) → Agrees (runTerms rule numbers Γ Δ ts) (termTypes rule Γ Δ ts)
+    pub terms-agree : (ts : Terms) (numbers : Ty → Ty) (Γ : Env) (Δ : List Ty) → Agrees (runTerms rule numbers Γ Δ ts) (termTypes rule Γ Δ ts)
     terms-agree noTerms numbers Γ Δ = taken
     terms-agree (moreTerms t ts) numbers Γ Δ =
         a-next (term-agrees t numbers Γ Δ) (λ n. next (runTerms rule numbers Γ Δ ts) (λ ns. Ok (n ∷ ns))) (λ n. onSome (λ ns. n ∷ ns) (termTypes rule Γ Δ ts))
-          (λ n. a-map (terms-agree ts numbers Γ Δ) (λ ns. n ∷ ns))
+        (λ n. a-map (terms-agree ts numbers Γ Δ) (λ ns. n ∷ ns))
 
   path-agrees : (Γ : Env) (place : ℕ) (p : ModulePath) → Agrees {C = C} (runPath Γ place p) (andThen (lookup Γ p) (λ s. normalize Γ (strengthen p s)))
   path-agrees Γ place p = a-limited (a-must (noWay place) (andThen (lookup Γ p) (λ s. normalize Γ (strengthen p s)))) smallSignature place
@@ -211,10 +211,10 @@ module _ {C : Type 0} (rule : Operation → List Ty → Outcome C) where
   apply-agrees Γ place argument p (structure c) = no-functor (path-agrees Γ argument p) place
   apply-agrees Γ place argument p (functor s r) =
       subst (Agrees (next (runPath Γ argument p) (λ b. runApply Γ place argument p b (functor s r))))
-        (then-then (lookup Γ p) (λ a. normalize Γ (strengthen p a)) (λ b. cond (doesMatch Γ b s) (normalize Γ (onSignature (reading p) r)) None))
-        (a-next (path-agrees Γ argument p) (λ b. runApply Γ place argument p b (functor s r)) (λ b. cond (doesMatch Γ b s) (normalize Γ (onSignature (reading p) r)) None)
-          (λ b. a-matched argument (mismatch Γ b s) (doesMatch Γ b s) (mismatch-is (extent b + extent s) Γ None b s)
-            (a-limited (a-must (noWay place) (normalize Γ (onSignature (reading p) r))) smallSignature place)))
+      (then-then (lookup Γ p) (λ a. normalize Γ (strengthen p a)) (λ b. cond (doesMatch Γ b s) (normalize Γ (onSignature (reading p) r)) None))
+      (a-next (path-agrees Γ argument p) (λ b. runApply Γ place argument p b (functor s r)) (λ b. cond (doesMatch Γ b s) (normalize Γ (onSignature (reading p) r)) None)
+      (λ b. a-matched argument (mismatch Γ b s) (doesMatch Γ b s) (mismatch-is (extent b + extent s) Γ None b s)
+      (a-limited (a-must (noWay place) (normalize Γ (onSignature (reading p) r))) smallSignature place)))
 
   mutual
     pub module-agrees : (m : Module) (from : Head → ℕ) (Γ : Env) (k : ℕ) → Agrees (runModule rule from Γ k m) (check rule Γ m)
@@ -222,25 +222,25 @@ module _ {C : Type 0} (rule : Operation → List Ty → Outcome C) where
     module-agrees (struct place is) from Γ k = a-limit (items-agree is from Γ k) (λ c. smallSignature (structure c)) place structure
     module-agrees (functorOf place s m) from Γ k =
         a-next (signature-agrees s Γ)
-          (λ a. next (runModule rule (under (suc k) from) (extend Γ a) (suc (k + signatureSize a)) m) (λ r. within (smallSignature (functor a r)) (tooLarge place) (functor a r)))
-          (λ a. onSome (functor a) (check rule (extend Γ a) m))
-          (λ a. a-limit (module-agrees m (under (suc k) from) (extend Γ a) (suc (k + signatureSize a))) (λ r. smallSignature (functor a r)) place (functor a))
+        (λ a. next (runModule rule (under (suc k) from) (extend Γ a) (suc (k + signatureSize a)) m) (λ r. within (smallSignature (functor a r)) (tooLarge place) (functor a r)))
+        (λ a. onSome (functor a) (check rule (extend Γ a) m))
+        (λ a. a-limit (module-agrees m (under (suc k) from) (extend Γ a) (suc (k + signatureSize a))) (λ r. smallSignature (functor a r)) place (functor a))
     module-agrees (applied place m argument p) from Γ k =
         a-next (module-agrees m from Γ k) (λ f. next (runPath Γ argument p) (λ b. runApply Γ place argument p b f)) (apply Γ p)
-          (apply-agrees Γ place argument p)
+        (apply-agrees Γ place argument p)
     module-agrees (ascribed place inner m s) from Γ k =
         a-next (module-agrees m from Γ k) (λ g. next (runSignature Γ s) (λ a. matched inner (mismatch Γ g a) (Ok a)))
-          (λ g. andThen (normalize Γ (signatureOf s)) (λ a. cond (doesMatch Γ g a) (Some a) None))
-          (λ g. a-next (signature-agrees s Γ) (λ a. matched inner (mismatch Γ g a) (Ok a)) (λ a. cond (doesMatch Γ g a) (Some a) None)
-            (λ a. a-matched inner (mismatch Γ g a) (doesMatch Γ g a) (mismatch-is (extent g + extent a) Γ None g a) taken))
+        (λ g. andThen (normalize Γ (signatureOf s)) (λ a. cond (doesMatch Γ g a) (Some a) None))
+        (λ g. a-next (signature-agrees s Γ) (λ a. matched inner (mismatch Γ g a) (Ok a)) (λ a. cond (doesMatch Γ g a) (Some a) None)
+        (λ a. a-matched inner (mismatch Γ g a) (doesMatch Γ g a) (mismatch-is (extent g + extent a) Γ None g a) taken))
 
     pub items-agree : (is : Items) (from : Head → ℕ) (Γ : Env) (k : ℕ) → Agrees (runItems rule from Γ k is) (checkAll rule Γ is)
     items-agree noItems from Γ k = taken
     items-agree (moreItems is x i) from Γ k =
         a-next (items-agree is from Γ k)
-          (λ c. mustNot (twice x) (find (itemSort i) x c) (next (runItem rule (under k from) (extend Γ (structure c)) (suc (k + componentsSize c)) i) (λ d. Ok (more c x d))))
-          (λ c. unless (find (itemSort i) x c) (onSome (more c x) (checkItem rule (extend Γ (structure c)) i)))
-          (λ c. a-mustNot (twice x) (find (itemSort i) x c) (a-map (item-agrees i (under k from) (extend Γ (structure c)) (suc (k + componentsSize c))) (more c x)))
+        (λ c. mustNot (twice x) (find (itemSort i) x c) (next (runItem rule (under k from) (extend Γ (structure c)) (suc (k + componentsSize c)) i) (λ d. Ok (more c x d))))
+        (λ c. unless (find (itemSort i) x c) (onSome (more c x) (checkItem rule (extend Γ (structure c)) i)))
+        (λ c. a-mustNot (twice x) (find (itemSort i) x c) (a-map (item-agrees i (under k from) (extend Γ (structure c)) (suc (k + componentsSize c))) (more c x)))
 
     item-agrees : (i : Item) (from : Head → ℕ) (Γ : Env) (k : ℕ) → Agrees (runItem rule from Γ k i) (checkItem rule Γ i)
     item-agrees (typeItem t) from Γ k = a-map (type-agrees t Γ) defined
@@ -269,8 +269,8 @@ module _ {C : Type 0} (rule : Operation → List Ty → Outcome C) where
       go :
           {r : Result Known (UnitFault C)} {o : Option Env} → AgreesOnUnits r o →
           AgreesOnUnits
-            (next r (λ w. inUnit (u .name) (mustNot (twice (u .name)) (w .signatures (unit (u .name))) (next (runUnit rule w u) (λ s. Ok (oneMore (u .name) s w))))))
-            (andThen o (λ Γ. unless (Γ (unit (u .name))) (andThen (check rule Γ (u .body)) (λ s. Some (withUnit (u .name) s Γ)))))
+          (next r (λ w. inUnit (u .name) (mustNot (twice (u .name)) (w .signatures (unit (u .name))) (next (runUnit rule w u) (λ s. Ok (oneMore (u .name) s w))))))
+          (andThen o (λ Γ. unless (Γ (unit (u .name))) (andThen (check rule Γ (u .body)) (λ s. Some (withUnit (u .name) s Γ)))))
       go (known {w = w}) = one-agrees (u .name) w (module-agrees rule (u .body) (w .stand) (w .signatures) (w .length)) (w .signatures (unit (u .name)))
       go unknowable = unknowable
       go largeUnit = largeUnit
@@ -315,7 +315,7 @@ pub fit-agrees :
 fit-agrees w g t =
     let Γ = w .signatures in
     a-next (signature-agrees t Γ) (λ a. matched 0 (mismatch Γ g a) (Ok a)) (λ a. cond (doesMatch Γ g a) (Some a) None)
-      (λ a. a-matched 0 (mismatch Γ g a) (doesMatch Γ g a) (mismatch-is (extent g + extent a) Γ None g a) taken)
+    (λ a. a-matched 0 (mismatch Γ g a) (doesMatch Γ g a) (mismatch-is (extent g + extent a) Γ None g a) taken)
 
 -- a test of an answer is an answer that passes it
 pub given-some : (o : Option Signature) (b : Signature → Bool) → given o b ≡ true → (a : Signature) × (andThen o (λ a. cond (b a) (Some a) None) ≡ Some a)

@@ -1,18 +1,18 @@
 -- Normalizing a signature gives a settled one that matches both ways, exactly where the signature is proper.
-use mathlib.Core.Path.{_≡_, refl, sym, _∙_, ap, ap₂, subst, subst₂}
-use mathlib.Core.Bool.{Bool, true, false, cond, _&&_}
-use Prim.Native.Nat.{ℕ, zero, suc, _+_}
+use mathlib.Core.Path.{_≡_, refl, sym, _∙_, ap, ap₂, subst}
+use mathlib.Core.Bool.{true, cond, _&&_}
+use Prim.Native.Nat.{suc, _+_}
 use Rattle.std.specs.shelf.Text.{sameBytes}
 use Rattle.std.specs.declared.option.Option.{Option}
 use Rattle.std.specs.declared.option.Option.the-variants.{Some, None}
-use Rattle.types.specs.Types.{Name, ModulePath, at, dot, named, Ty, leaf}
-use Rattle.rules.specs.Signatures.{Sort, aType, aValue, aModule, Signature, structure, functor, Components, empty, more, Declaration, abstract, defined, value, nested, sortOf, sameSort, firstOf, find, onSome, extent, extentAll, extentOne}
-use Rattle.rules.specs.Substitution.{innermost, onSignature, onDeclaration}
-use Rattle.rules.specs.Lookup.{Env, extend, Has, Normal, unfolds, opaque}
-use Rattle.rules.specs.Checker.{andThen, unless, normalType, normalize, normalizeAll, normalizeOne}
+use Rattle.types.specs.Types.{Name, at, named, Ty, leaf}
+use Rattle.rules.specs.Signatures.{Sort, Signature, structure, functor, Components, empty, more, Declaration, abstract, defined, value, nested, sortOf, sameSort, firstOf, find, onSome, extent, extentAll, extentOne}
+use Rattle.rules.specs.Substitution.{innermost}
+use Rattle.rules.specs.Lookup.{Env, extend, Normal, unfolds, opaque}
+use Rattle.rules.specs.Checker.{unless, normalType, normalize, normalizeAll, normalizeOne}
 use Rattle.rules.proofs.Algebra.{declaration-id}
 use Rattle.rules.proofs.Finding.{clash, sameSort-self, sameBytes-self, normal-normal}
-use Rattle.rules.proofs.Inner.{Typed, Fits, fStructure, fFunctor, gNone, Proper, ProperAll, ProperOne, ProperEnv}
+use Rattle.rules.proofs.Inner.{Fits, fStructure, fFunctor, gNone, Proper, ProperAll, ProperOne}
 use Rattle.rules.proofs.Along.{was-some}
 use Rattle.rules.proofs.Exact.{fits-fresh}
 use Rattle.rules.proofs.Transitive.{knows-gives, GivesOne}
@@ -21,7 +21,7 @@ use Rattle.rules.proofs.Properness.{properOne-along, proper-finer}
 use Rattle.rules.proofs.Reflexive.{has-at}
 use Rattle.rules.proofs.Derived.{find-none}
 use Rattle.rules.proofs.Principal.{longer-extend, last-has, same-finer, fits-more}
-use Rattle.rules.proofs.Settling.{Settled, SettledAll, SettledOne, SettledEnv, settled-proper, settled-extend, normal-type, type-normal, then-some, then-is, unless-some, unless-is}
+use Rattle.rules.proofs.Settling.{Settled, SettledAll, SettledOne, SettledEnv, settled-extend, normal-type, type-normal, then-some, then-is, unless-some, unless-is}
 
 -- a fresh module of a signature that matches is finer
 pub fits-along-fresh : (Γ : Env) (a b : Signature) → Fits Γ a b → Along at (extend Γ b) (extend Γ a)
@@ -35,12 +35,14 @@ none-before c s x y d = go (find s x c)
         (o : Option Declaration) → firstOf o (cond (sameSort s (sortOf d) && sameBytes x y) (Some d) None) ≡ None →
         (o ≡ None) × (sortOf d ≡ s → y ≡ x → ⊥)
     go (Some b) e = clash (cc)
-    go None e =
-        (refl, λ p q.
+    go None e = (
+      refl,
+      λ p q.
           let i : sameSort s (sortOf d) ≡ true = ap (sameSort s) p ∙ sameSort-self s in
           let j : sameBytes x y ≡ true = ap (sameBytes x) q ∙ sameBytes-self x in
           let k : Some d ≡ None = sym (ap₂ (λ a b. cond (a && b) (Some d) None) i j) ∙ e in
-          clash (cc))
+          clash (cc),
+    )
 
 -- a signature and its normal form
 pub record NormalOf (Γ : Env) (s n : Signature) : Type 0 where
@@ -104,7 +106,7 @@ one-forth Γ c b x f (nValue {t = t} {n = n} m) a =
     (t, v .0, last-has Γ c x (value t) a, v .1, v .2)
 one-forth Γ c b x f (nNested {s = s} m) a =
     at-fits (has-at (last-has Γ c x (nested s) a))
-      (fits-finer (longer-extend Γ c x (nested s)) (fits-finer (fits-along-fresh Γ (structure c) (structure b) f) (m .forth)))
+    (fits-finer (longer-extend Γ c x (nested s)) (fits-finer (fits-along-fresh Γ (structure c) (structure b) f) (m .forth)))
 
 one-back :
     (Γ : Env) (b : Components) (x : Name) {d e : Declaration} → NormalOfOne (extend Γ (structure b)) d e →
@@ -131,18 +133,18 @@ all-more Γ c b x d e w a o =
       back = fits-more Γ b c x e d (w .back) (one-back Γ b x o a′);
       extents = ap₂ (λ m n. m + n) (w .extents) (one-extent o);
       absent = λ s y f.
-        let v = none-before c s y x d f in
-        find-none b s y x e (w .absent s y (v .0)) (λ p q. v .1 (sym (one-sort o) ∙ p) q)
+          let v = none-before c s y x d f in
+          find-none b s y x e (w .absent s y (v .0)) (λ p q. v .1 (sym (one-sort o) ∙ p) q);
     }
 
 functor-normal : (Γ : Env) (s r a b : Signature) → NormalOf Γ s a → NormalOf (extend Γ a) r b → NormalOf Γ (functor s r) (functor a b)
 functor-normal Γ s r a b w v = record {
-    proper = (w .proper, proper-finer (extend Γ a) (extend Γ s) r (fits-along-fresh Γ s a (w .forth)) (v .proper));
-    settled = (w .settled, v .settled);
-    forth = fFunctor (w .back) (v .forth);
-    back = fFunctor (w .forth) (fits-finer (fits-along-fresh Γ s a (w .forth)) (v .back));
-    extents = ap₂ (λ m n. suc (m + n)) (w .extents) (v .extents)
-  }
+  proper = (w .proper, proper-finer (extend Γ a) (extend Γ s) r (fits-along-fresh Γ s a (w .forth)) (v .proper));
+  settled = (w .settled, v .settled);
+  forth = fFunctor (w .back) (v .forth);
+  back = fFunctor (w .forth) (fits-finer (fits-along-fresh Γ s a (w .forth)) (v .back));
+  extents = ap₂ (λ m n. suc (m + n)) (w .extents) (v .extents);
+}
 
 structure-normal : (Γ : Env) (c b : Components) → NormalOfAll Γ c b → NormalOf Γ (structure c) (structure b)
 structure-normal Γ c b w = record { proper = w .proper; settled = w .settled; forth = w .forth; back = w .back; extents = ap suc (w .extents) }
@@ -158,13 +160,13 @@ mutual
       let v = was-some (functor a) (normalize (extend Γ a) r) n (w .2) in
       let i = normalize-is s Γ a e (w .1) in
       subst (NormalOf Γ (functor s r)) (v .2)
-        (functor-normal Γ s r a (v .0) i (normalize-is r (extend Γ a) (v .0) (settled-extend Γ a e (i .settled)) (v .1)))
+      (functor-normal Γ s r a (v .0) i (normalize-is r (extend Γ a) (v .0) (settled-extend Γ a e (i .settled)) (v .1)))
 
   pub normalizeAll-is : (c : Components) (Γ : Env) (n : Components) → SettledEnv Γ → normalizeAll Γ c ≡ Some n → NormalOfAll Γ c n
   normalizeAll-is empty Γ n e q =
       let i : empty ≡ n = cc in
       subst (NormalOfAll Γ empty) i
-        (record { proper = tt; settled = tt; forth = fStructure gNone; back = fStructure gNone; extents = refl; absent = λ s x f. refl })
+      (record { proper = tt; settled = tt; forth = fStructure gNone; back = fStructure gNone; extents = refl; absent = λ s x f. refl })
   normalizeAll-is (more c x d) Γ n e q =
       let w = then-some (normalizeAll Γ c) (λ b. unless (find (sortOf d) x c) (onSome (more b x) (normalizeOne (extend Γ (structure b)) d))) n q in
       let b = w .0 in
@@ -172,8 +174,8 @@ mutual
       let y = was-some (more b x) (normalizeOne (extend Γ (structure b)) d) n (v .1) in
       let i = normalizeAll-is c Γ b e (w .1) in
       subst (NormalOfAll Γ (more c x d)) (y .2)
-        (all-more Γ c b x d (y .0) i (v .0)
-          (normalizeOne-is d (extend Γ (structure b)) (y .0) (settled-extend Γ (structure b) e (i .settled)) (y .1)))
+      (all-more Γ c b x d (y .0) i (v .0)
+      (normalizeOne-is d (extend Γ (structure b)) (y .0) (settled-extend Γ (structure b) e (i .settled)) (y .1)))
 
   pub normalizeOne-is : (d : Declaration) (Γ : Env) (n : Declaration) → SettledEnv Γ → normalizeOne Γ d ≡ Some n → NormalOfOne Γ d n
   normalizeOne-is abstract Γ n e q = let i : abstract ≡ n = cc in subst (NormalOfOne Γ abstract) i nAbstract
@@ -192,9 +194,10 @@ mutual
       let a = v .0 in
       let i = normalize-is s Γ a e (v .1) in
       let y = normalize-proper r (extend Γ a) (settled-extend Γ a e (i .settled))
-            (proper-finer (extend Γ s) (extend Γ a) r (fits-along-fresh Γ a s (i .back)) (w .1)) in
-      (functor a (y .0),
-       then-is (normalize Γ s) (λ a. onSome (functor a) (normalize (extend Γ a) r)) a (functor a (y .0)) (v .1) (ap (onSome (functor a)) (y .1)))
+      (proper-finer (extend Γ s) (extend Γ a) r (fits-along-fresh Γ a s (i .back)) (w .1)) in (
+        functor a (y .0),
+        then-is (normalize Γ s) (λ a. onSome (functor a) (normalize (extend Γ a) r)) a (functor a (y .0)) (v .1) (ap (onSome (functor a)) (y .1)),
+      )
 
   pub normalizeAll-proper : (c : Components) (Γ : Env) → SettledEnv Γ → ProperAll Γ c → (n : Components) × (normalizeAll Γ c ≡ Some n)
   normalizeAll-proper empty Γ e w = (empty, refl)
@@ -204,11 +207,12 @@ mutual
       let i = normalizeAll-is c Γ b e (v .1) in
       let Γ+ = extend Γ (structure b) in
       let p = subst (ProperOne Γ+) (declaration-id d)
-            (properOne-along d (extend Γ (structure c)) Γ+ at (fits-along-fresh Γ (structure b) (structure c) (i .back)) (w .2)) in
-      let y = normalizeOne-proper d Γ+ (settled-extend Γ (structure b) e (i .settled)) p in
-      (more b x (y .0),
-       then-is (normalizeAll Γ c) (λ b. unless (find (sortOf d) x c) (onSome (more b x) (normalizeOne (extend Γ (structure b)) d))) b (more b x (y .0)) (v .1)
-         (unless-is (find (sortOf d) x c) (onSome (more b x) (normalizeOne Γ+ d)) (more b x (y .0)) (w .1) (ap (onSome (more b x)) (y .1))))
+      (properOne-along d (extend Γ (structure c)) Γ+ at (fits-along-fresh Γ (structure b) (structure c) (i .back)) (w .2)) in
+      let y = normalizeOne-proper d Γ+ (settled-extend Γ (structure b) e (i .settled)) p in (
+        more b x (y .0),
+        then-is (normalizeAll Γ c) (λ b. unless (find (sortOf d) x c) (onSome (more b x) (normalizeOne (extend Γ (structure b)) d))) b (more b x (y .0)) (v .1)
+            (unless-is (find (sortOf d) x c) (onSome (more b x) (normalizeOne Γ+ d)) (more b x (y .0)) (w .1) (ap (onSome (more b x)) (y .1))),
+      )
 
   pub normalizeOne-proper : (d : Declaration) (Γ : Env) → SettledEnv Γ → ProperOne Γ d → (n : Declaration) × (normalizeOne Γ d ≡ Some n)
   normalizeOne-proper abstract Γ e w = (abstract, refl)

@@ -1,23 +1,21 @@
 -- Principality: what is derived with the free rule, some signature derived without it matches, in every finer environment too.
-use mathlib.Core.Path.{_≡_, refl, sym, _∙_, ap, ap₂, subst, subst₂}
-use mathlib.Core.Bool.{Bool, true, false}
-use mathlib.Core.List.{List, [], _∷_}
-use Prim.Native.Nat.{ℕ, zero}
-use Rattle.std.specs.declared.option.Option.{Option}
-use Rattle.std.specs.declared.option.Option.the-variants.{Some, None}
-use Rattle.types.specs.Types.{Name, binder, ModulePath, at, dot, named, Ty, leaf}
-use Rattle.cores.specs.Meaning.{Outcome, gives, Stable}
+use mathlib.Core.Path.{_≡_, refl, subst}
+use mathlib.Core.Bool.{Bool, false}
+use mathlib.Core.List.{List}
+use Prim.Native.Nat.{ℕ}
+use Rattle.std.specs.declared.option.Option.the-variants.{None}
+use Rattle.types.specs.Types.{Name, at, Ty}
+use Rattle.cores.specs.Meaning.{Outcome, Stable}
 use Rattle.cores.specs.declared.interface.Operation.{Operation}
-use Rattle.rules.specs.Signatures.{Sort, aType, aValue, aModule, Signature, structure, functor, Components, empty, more, Declaration, abstract, defined, value, nested, sortOf, find}
-use Rattle.rules.specs.Substitution.{under, innermost, out, lift, reading, onPath, onType, onSignature, onComponents, onDeclaration}
-use Rattle.rules.specs.Lookup.{Env, extend, At, head, Has, Normal, unfolds}
-use Rattle.rules.specs.Matching.{Matches}
+use Rattle.rules.specs.Signatures.{aType, aValue, aModule, Signature, structure, functor, Components, empty, more, Declaration, defined, value, nested, sortOf, find}
+use Rattle.rules.specs.Substitution.{innermost, out, lift, reading, onSignature, onComponents, onDeclaration}
+use Rattle.rules.specs.Lookup.{Env, extend, head, Has, Normal, unfolds}
 use Rattle.rules.specs.Strengthening.{strengthen}
 use Rattle.rules.specs.Syntax.{Module, Items, signatureOf, typeOf}
-use Rattle.rules.specs.Rules.{Undeclared, TermHas, Derives, byPath, byItems, byFunctor, byApplication, bySignature, byMatching, DerivesAll, noItem, typeToo, letToo, moduleToo}
-use Rattle.rules.proofs.Algebra.{after, type-id, declaration-fresh, sort-on}
-use Rattle.rules.proofs.Finding.{clash, find-last, find-on-some, Begins, all, onward, normal-normal}
-use Rattle.rules.proofs.Inner.{Typed, Gives, GivesAll, gNone, Fits, fStructure, fFunctor, Proper, ProperAll, ProperOne, ProperEnv}
+use Rattle.rules.specs.Rules.{Derives, byPath, byItems, byFunctor, byApplication, bySignature, byMatching, DerivesAll, noItem, typeToo, letToo, moduleToo}
+use Rattle.rules.proofs.Algebra.{type-id, declaration-fresh}
+use Rattle.rules.proofs.Finding.{find-last, find-on-some, all, onward, normal-normal}
+use Rattle.rules.proofs.Inner.{Gives, gNone, Fits, fStructure, fFunctor, ProperEnv}
 use Rattle.rules.proofs.Along.{same-along, fits-along}
 use Rattle.rules.proofs.Exact.{longer, under-fresh, fits-fresh}
 use Rattle.rules.proofs.Transitive.{Knows, knows-laws, knows-gives, knows-exact, GivesOne, gives-more, fits-trans}
@@ -34,23 +32,23 @@ use Rattle.rules.proofs.Derived.{undeclared-none, argument-gives, derives-prop
 pub finer-extend : (Γ′ Γ : Env) (a b : Signature) → Along at Γ′ Γ → Knows (extend Γ b) innermost (onSignature out a) → Along at (extend Γ′ a) (extend Γ b)
 finer-extend Γ′ Γ a b k z =
     subst (λ θ. Along θ (extend Γ′ a) (extend Γ b)) under-fresh
-      (under-along out Γ′ (extend Γ b) innermost a (weaken-along at Γ′ Γ b k) z)
+    (under-along out Γ′ (extend Γ b) innermost a (weaken-along at Γ′ Γ b k) z)
 
 -- a structure with one more component
 pub longer-extend : (Γ : Env) (c : Components) (x : Name) (d : Declaration) → Along at (extend Γ (structure c)) (extend Γ (structure (more c x d)))
 longer-extend Γ c x d =
     narrow-along Γ (structure (more c x d)) (structure c)
-      (knows-exact (onSignature out (structure (more c x d)), head refl, longer (onward all)))
+    (knows-exact (onSignature out (structure (more c x d)), head refl, longer (onward all)))
 
 -- a fresh structure has its last component
 pub last-has : (Γ : Env) (c : Components) (x : Name) (d : Declaration) → find (sortOf d) x c ≡ None → Has (extend Γ (structure (more c x d))) innermost (sortOf d) x d
 last-has Γ c x d f = record {
-    components = onComponents (lift out) (more c x d);
-    declared = onDeclaration (lift out) d;
-    leads = head refl;
-    found = find-on-some (lift out) (sortOf d) x (more c x d) d (find-last c x d f);
-    reads = declaration-fresh d
-  }
+  components = onComponents (lift out) (more c x d);
+  declared = onDeclaration (lift out) d;
+  leads = head refl;
+  found = find-on-some (lift out) (sortOf d) x (more c x d) d (find-last c x d f);
+  reads = declaration-fresh d;
+}
 
 pub same-finer : {Γ′ Γ : Env} {t u n : Ty} → Along at Γ′ Γ → Normal Γ′ t n → Normal Γ′ u n → (m : Ty) × Normal Γ t m × Normal Γ u m
 same-finer {Γ′} {Γ} {t} {u} k a b =
@@ -96,10 +94,11 @@ module _ {C : Type 0} (n : ℕ) (rule : Operation → List Ty → Outcome C) (la
         let w = derives-proper n rule law d e in
         let g′ : Gives Γ p s′ = gives-finer k (argument-gives n rule law Γ′ p a′ s′ e′ at′ (w′ .0) m′) in
         let g : Gives Γ p s = gives-fits g′ (f .3) in
-        let j = gives-at g in
-        (onSignature (reading p) r,
-         byApplication {argument = place} s r (j .0) d (j .1) (fits-matches (gives-strengthened (j .0) s Γ p e (j .1) (w .0) g)),
-         fits-along Knows knows-laws (f .4) (reading p) Γ (reading-along Γ p s′ (knows-gives g′)))
+        let j = gives-at g in (
+          onSignature (reading p) r,
+          byApplication {argument = place} s r (j .0) d (j .1) (fits-matches (gives-strengthened (j .0) s Γ p e (j .1) (w .0) g)),
+          fits-along Knows knows-laws (f .4) (reading p) Γ (reading-along Γ p s′ (knows-gives g′)),
+        )
     principal (bySignature {Γ = Γ′} {s = t} g′ d′ w m) e′ Γ e k =
         let s = signatureOf t in
         let i = principal d′ e′ Γ e k in
@@ -123,9 +122,11 @@ module _ {C : Type 0} (n : ℕ) (rule : Operation → List Ty → Outcome C) (la
         let w′ = proper-extend Γ′ (structure c′) e′ (derivesAll-proper n rule law d′ e′) in
         let o = typed-finer k+ (leads-typed (extend Γ′ (structure c′)) (typeOf t) w′ l) in
         let o+ = typed-finer (longer-extend Γ c x (defined (typeOf t))) o in
-        let h = last-has Γ c x (defined (typeOf t)) (undeclared-none (i .1) aType x u) in
-        (more c x (defined (typeOf t)), typeToo (i .1) u (typed-leads (o .1)),
-         fits-more Γ c c′ x (defined (typeOf t)) (defined (typeOf t)) (i .2) (o+ .0, unfolds (typeOf t) h (o+ .1), o+ .1))
+        let h = last-has Γ c x (defined (typeOf t)) (undeclared-none (i .1) aType x u) in (
+          more c x (defined (typeOf t)),
+          typeToo (i .1) u (typed-leads (o .1)),
+          fits-more Γ c c′ x (defined (typeOf t)) (defined (typeOf t)) (i .2) (o+ .0, unfolds (typeOf t) h (o+ .1), o+ .1),
+        )
     principal-all (letToo {Γ = Γ′} {c = c′} {x = x} {n = b′} d′ u h) e′ Γ e k =
         let i = principal-all d′ e′ Γ e k in
         let c = i .0 in
@@ -143,6 +144,8 @@ module _ {C : Type 0} (n : ℕ) (rule : Operation → List Ty → Outcome C) (la
         let w = proper-extend Γ (structure c) e (derivesAll-proper n rule law (i .1) e) in
         let j = principal m w′ (extend Γ (structure c)) w k+ in
         let s = j .0 in
-        let h = last-has Γ c x (nested s) (undeclared-none (i .1) aModule x u) in
-        (more c x (nested s), moduleToo (i .1) u (j .1),
-         fits-more Γ c c′ x (nested s) (nested s′) (i .2) (at-fits (has-at h) (fits-finer (longer-extend Γ c x (nested s)) (j .2))))
+        let h = last-has Γ c x (nested s) (undeclared-none (i .1) aModule x u) in (
+          more c x (nested s),
+          moduleToo (i .1) u (j .1),
+          fits-more Γ c c′ x (nested s) (nested s′) (i .2) (at-fits (has-at h) (fits-finer (longer-extend Γ c x (nested s)) (j .2))),
+        )

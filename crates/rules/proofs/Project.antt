@@ -5,22 +5,21 @@ use mathlib.Core.List.{List}
 use Prim.Native.Nat.{ℕ}
 use Rattle.std.specs.shelf.Text.{sameBytes}
 use Rattle.std.proofs.shelf.Equals.{sameBytes-decides}
-use Rattle.std.specs.declared.option.Option.{Option}
 use Rattle.std.specs.declared.option.Option.the-variants.{Some, None}
-use Rattle.types.specs.Types.{Name, Head, unit, binder, ModulePath, at, Ty}
+use Rattle.types.specs.Types.{Name, Head, unit, binder, at, Ty}
 use Rattle.cores.specs.Meaning.{Outcome, Stable}
 use Rattle.cores.specs.declared.interface.Operation.{Operation}
 use Rattle.rules.specs.Signatures.{Signature}
 use Rattle.rules.specs.Substitution.{onSignature}
-use Rattle.rules.specs.Lookup.{Env, extend, At, head}
-use Rattle.rules.specs.Syntax.{Module, Items, CompilationUnit}
+use Rattle.rules.specs.Lookup.{Env, head}
+use Rattle.rules.specs.Syntax.{Module, Items}
 use Rattle.rules.specs.Rules.{Derives, byPath, byItems, byFunctor, byApplication, bySignature, byMatching, DerivesAll, noItem, typeToo, letToo, moduleToo}
 use Rattle.rules.specs.Environments.{unknown, withUnit, Built, nothingYet, aUnit, aBinder}
-use Rattle.rules.specs.Projects.{Units, noUnits, moreUnits, Loads, start, next}
+use Rattle.rules.specs.Projects.{Units, Loads, start, next}
 use Rattle.rules.proofs.Algebra.{signature-id}
 use Rattle.rules.proofs.Finding.{clash, sameBytes-self}
 use Rattle.rules.proofs.Inner.{Fits, Proper, ProperEnv}
-use Rattle.rules.proofs.Transitive.{Knows, knows-laws, knows-gives}
+use Rattle.rules.proofs.Transitive.{Knows, knows-gives}
 use Rattle.rules.proofs.Knowing.{Along, knows-at, knows-along, at-fits, fits-finer}
 use Rattle.rules.proofs.Properness.{proper-finer, proper-extend}
 use Rattle.rules.proofs.Wording.{sound-proper}
@@ -62,7 +61,7 @@ unit-along x s Γ f h t e =
 pub unit-proper : (x : Name) (s : Signature) (Γ : Env) → Γ (unit x) ≡ None → ProperEnv Γ → Proper Γ s → ProperEnv (withUnit x s Γ)
 unit-proper x s Γ f e w =
     unit-cases x s Γ (λ h t. Proper (withUnit x s Γ) t) (proper-finer Γ (withUnit x s Γ) s (unit-along x s Γ f) w)
-      (λ h t i. proper-finer Γ (withUnit x s Γ) t (unit-along x s Γ f) (e h t i))
+    (λ h t i. proper-finer Γ (withUnit x s Γ) t (unit-along x s Γ f) (e h t i))
 
 pub none-proper : ProperEnv unknown
 none-proper h s e = clash (cc)
@@ -77,10 +76,10 @@ pub finer-unit :
     (x : Name) (s′ s : Signature) (Γ′ Γ : Env) → Γ (unit x) ≡ None → Along at Γ′ Γ → Fits Γ s s′ → Along at (withUnit x s′ Γ′) (withUnit x s Γ)
 finer-unit x s′ s Γ′ Γ f k m =
     unit-cases x s′ Γ′ (λ h t. Knows Γ+ (at h) (onSignature at t))
-      (subst (Knows Γ+ (at (unit x))) (sym (signature-id s′))
-        (knows-gives (at-fits (head (unit-here x s Γ)) (fits-finer (unit-along x s Γ f) m))))
-      (λ h t e. subst (λ z. Knows Γ+ (at h) z) (signature-id (onSignature at t))
-        (knows-along Γ Γ+ at (at h) (onSignature at t) (unit-along x s Γ f) (k h t e)))
+    (subst (Knows Γ+ (at (unit x))) (sym (signature-id s′))
+    (knows-gives (at-fits (head (unit-here x s Γ)) (fits-finer (unit-along x s Γ f) m))))
+    (λ h t e. subst (λ z. Knows Γ+ (at h) z) (signature-id (onSignature at t))
+    (knows-along Γ Γ+ at (at h) (onSignature at t) (unit-along x s Γ f) (k h t e)))
   where
     Γ+ : Env
     Γ+ = withUnit x s Γ
@@ -135,6 +134,9 @@ module _ {C : Type 0} (n : ℕ) (rule : Operation → List Ty → Outcome C) (la
       let w = loads-principal l′ in
       let Γ = w .0 in
       let i = principal n rule law d′ (loads-proper l′) Γ (loads-proper (w .1)) (w .2) in
-      let f = w .3 (unit (u .name)) f′ in
-      (withUnit (u .name) (i .0) Γ, next (i .0) (w .1) f (i .1),
-       finer-unit (u .name) s′ (i .0) Γ′ Γ f (w .2) (i .2), none-kept (u .name) s′ (i .0) Γ′ Γ (w .3))
+      let f = w .3 (unit (u .name)) f′ in (
+        withUnit (u .name) (i .0) Γ,
+        next (i .0) (w .1) f (i .1),
+        finer-unit (u .name) s′ (i .0) Γ′ Γ f (w .2) (i .2),
+        none-kept (u .name) s′ (i .0) Γ′ Γ (w .3),
+      )

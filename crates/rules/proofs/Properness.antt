@@ -1,14 +1,12 @@
 -- Proper signatures along substitutions, and what proper environments know.
-use mathlib.Core.Path.{_≡_, refl, sym, _∙_, ap, ap₂, subst, subst₂}
+use mathlib.Core.Path.{_≡_, sym, _∙_, ap, subst}
 use mathlib.Core.Logic.{_⊎_, inl, inr}
-use Prim.Native.Nat.{ℕ, zero, suc}
-use Rattle.std.specs.declared.option.Option.{Option}
 use Rattle.std.specs.declared.option.Option.the-variants.{Some, None}
-use Rattle.types.specs.Types.{Name, Head, ModulePath, at, dot, named, Ty, leaf}
-use Rattle.rules.specs.Signatures.{Sort, aType, aValue, aModule, Signature, structure, functor, Components, empty, more, Declaration, abstract, defined, value, nested, sortOf, find}
-use Rattle.rules.specs.Substitution.{Substitution, under, outward, innermost, onPath, out, lift, reading, onType, onSignature, onComponents, onDeclaration}
-use Rattle.rules.specs.Lookup.{Env, extend, At, head, inside, Has, Normal, opaque, unfolds}
-use Rattle.rules.proofs.Algebra.{after, signature-id, sort-on}
+use Rattle.types.specs.Types.{Name, ModulePath, at, named, leaf}
+use Rattle.rules.specs.Signatures.{Sort, aType, aModule, Signature, structure, functor, Components, empty, more, Declaration, abstract, defined, value, nested, sortOf, find}
+use Rattle.rules.specs.Substitution.{Substitution, out, lift, reading, onSignature, onComponents, onDeclaration}
+use Rattle.rules.specs.Lookup.{Env, extend, At, head, inside, Has, opaque, unfolds}
+use Rattle.rules.proofs.Algebra.{signature-id, sort-on}
 use Rattle.rules.proofs.Finding.{clash, find-on-none, find-cases, find-sort, Begins, all, onward}
 use Rattle.rules.proofs.Inner.{Typed, Proper, ProperAll, ProperOne, ProperEnv}
 use Rattle.rules.proofs.Along.{extend-cases, typed-along}
@@ -19,16 +17,18 @@ use Rattle.rules.proofs.Knowing.{Along, lift-along, out-along, reading-along}
 mutual
   pub proper-along : (s : Signature) (Γ′ Γ : Env) (θ : Substitution) → Along θ Γ′ Γ → Proper Γ′ s → Proper Γ (onSignature θ s)
   proper-along (structure c) Γ′ Γ θ k w = properAll-along c Γ′ Γ θ k w
-  proper-along (functor s r) Γ′ Γ θ k w =
-      (proper-along s Γ′ Γ θ k (w .0),
-       proper-along r (extend Γ′ s) (extend Γ (onSignature θ s)) (lift θ) (lift-along θ Γ′ Γ s k) (w .1))
+  proper-along (functor s r) Γ′ Γ θ k w = (
+    proper-along s Γ′ Γ θ k (w .0),
+    proper-along r (extend Γ′ s) (extend Γ (onSignature θ s)) (lift θ) (lift-along θ Γ′ Γ s k) (w .1),
+  )
 
   properAll-along : (c : Components) (Γ′ Γ : Env) (θ : Substitution) → Along θ Γ′ Γ → ProperAll Γ′ c → ProperAll Γ (onComponents (lift θ) c)
   properAll-along empty Γ′ Γ θ k w = tt
-  properAll-along (more c x d) Γ′ Γ θ k w =
-      (properAll-along c Γ′ Γ θ k (w .0),
-       ap (λ s. find s x (onComponents (lift θ) c)) (sort-on (lift θ) d) ∙ find-on-none (lift θ) (sortOf d) x c (w .1),
-       properOne-along d (extend Γ′ (structure c)) (extend Γ (onSignature θ (structure c))) (lift θ) (lift-along θ Γ′ Γ (structure c) k) (w .2))
+  properAll-along (more c x d) Γ′ Γ θ k w = (
+    properAll-along c Γ′ Γ θ k (w .0),
+    ap (λ s. find s x (onComponents (lift θ) c)) (sort-on (lift θ) d) ∙ find-on-none (lift θ) (sortOf d) x c (w .1),
+    properOne-along d (extend Γ′ (structure c)) (extend Γ (onSignature θ (structure c))) (lift θ) (lift-along θ Γ′ Γ (structure c) k) (w .2),
+  )
 
   pub properOne-along : (d : Declaration) (Γ′ Γ : Env) (θ : Substitution) → Along θ Γ′ Γ → ProperOne Γ′ d → ProperOne Γ (onDeclaration θ d)
   properOne-along abstract Γ′ Γ θ k w = tt
@@ -42,7 +42,7 @@ proper-finer Γ′ Γ s k w = subst (Proper Γ) (signature-id s) (proper-along s
 pub proper-extend : (Γ : Env) (s : Signature) → ProperEnv Γ → Proper Γ s → ProperEnv (extend Γ s)
 proper-extend Γ s e w =
     extend-cases Γ s (λ h t. Proper (extend Γ s) t) (proper-along s Γ (extend Γ s) out (out-along Γ s) w)
-      (λ h t f. proper-along t Γ (extend Γ s) out (out-along Γ s) (e h t f))
+    (λ h t f. proper-along t Γ (extend Γ s) out (out-along Γ s) (e h t f))
 
 -- what is found among proper components is proper where those before it are known
 pub proper-found :
@@ -65,7 +65,7 @@ pub proper-component :
 proper-component Γ p c a w s x d f =
     let v = proper-found Γ c w s x d f in
     properOne-along d (extend Γ (structure (v .0))) Γ (reading p)
-      (reading-along Γ p (structure (v .0)) (knows-exact (structure c, a, longer (v .1)))) (v .2)
+    (reading-along Γ p (structure (v .0)) (knows-exact (structure c, a, longer (v .1)))) (v .2)
 
 pub proper-at : {Γ : Env} {p : ModulePath} {s : Signature} → ProperEnv Γ → At Γ p s → Proper Γ s
 proper-at e (head {h = h} {s = s} f) = e h s f
@@ -75,7 +75,7 @@ proper-at {Γ} e (inside {p = p} {x = x} c d a f r) =
 pub proper-has : {Γ : Env} {p : ModulePath} {s : Sort} {x : Name} {d : Declaration} → ProperEnv Γ → Has Γ p s x d → ProperOne Γ d
 proper-has {Γ} {p} {s} {x} {d} e h =
     subst (ProperOne Γ) (h .reads)
-      (proper-component Γ p (h .components) (h .leads) (proper-at e (h .leads)) s x (h .declared) (h .found))
+    (proper-component Γ p (h .components) (h .leads) (proper-at e (h .leads)) s x (h .declared) (h .found))
 
 pub has-sort : {Γ : Env} {p : ModulePath} {s : Sort} {x : Name} {d : Declaration} → Has Γ p s x d → sortOf d ≡ s
 has-sort {Γ} {p} {s} {x} {d} h =

@@ -1,22 +1,19 @@
 -- Reflexivity, in a general form: two substitutions that agree on abstract types make matching signatures out of a proper one.
-use mathlib.Core.Path.{_≡_, refl, sym, _∙_, ap, ap₂, subst, subst₂}
+use mathlib.Core.Path.{_≡_, refl, sym, _∙_, ap, subst, subst₂}
 use mathlib.Core.Logic.{_⊎_, inl, inr}
-use Prim.Native.Nat.{ℕ, zero, suc}
-use Rattle.std.specs.declared.option.Option.{Option}
 use Rattle.std.specs.declared.option.Option.the-variants.{Some, None}
-use Rattle.types.specs.Types.{Name, Head, unit, binder, ModulePath, at, dot, named, Ty, leaf, label0, label1, label2}
-use Rattle.rules.specs.Signatures.{Sort, aType, aValue, aModule, Signature, structure, functor, Components, empty, more, Declaration, abstract, defined, value, nested, sortOf, find, onSome}
-use Rattle.rules.specs.Substitution.{Substitution, under, outward, innermost, onPath, out, lift, reading, onType, onSignature, onComponents, onDeclaration}
+use Rattle.types.specs.Types.{Name, ModulePath, at, dot, named, Ty, leaf, label0, label1, label2}
+use Rattle.rules.specs.Signatures.{aType, aValue, aModule, Signature, structure, functor, Components, empty, more, Declaration, abstract, defined, value, nested, sortOf, find}
+use Rattle.rules.specs.Substitution.{Substitution, under, innermost, onPath, out, lift, reading, onType, onSignature, onComponents, onDeclaration}
 use Rattle.rules.specs.Lookup.{Env, extend, At, head, inside, Has, Normal, opaque, unfolds, bare, part, parts}
-use Rattle.rules.proofs.Algebra.{after, path-under-out, path-comp, path-id, signature-comp, signature-id, components-id, declaration-reading-lift, type-reading-lift, components-reading-lift, signature-reading-lift, sort-on}
-use Rattle.rules.proofs.Finding.{clash, find-last, find-on-none, Begins, all, onward, begins-before}
-use Rattle.rules.proofs.Inner.{Typed, Gives, gStructure, gFunctor, GivesAll, gNone, Fits, fStructure, fFunctor, Proper, ProperAll, ProperOne, ProperEnv}
-use Rattle.rules.proofs.Along.{abstract-along, defined-along, normal-along, typed-along}
-use Rattle.rules.proofs.Exact.{Exact, exact-has, exact-at, longer, fits-fresh}
-use Rattle.rules.proofs.Transitive.{Knows, knows-laws, knows-gives, knows-exact, GivesOne, gives-more}
+use Rattle.rules.proofs.Algebra.{after, path-under-out, path-comp, signature-comp, signature-id, declaration-reading-lift, components-reading-lift, sort-on}
+use Rattle.rules.proofs.Finding.{find-last, find-on-none, Begins, all, begins-before}
+use Rattle.rules.proofs.Inner.{Typed, Gives, gStructure, gFunctor, GivesAll, gNone, Fits, fStructure, fFunctor, Proper, ProperAll, ProperOne}
+use Rattle.rules.proofs.Along.{abstract-along, defined-along, normal-along}
+use Rattle.rules.proofs.Exact.{exact-has, longer, fits-fresh}
+use Rattle.rules.proofs.Transitive.{Knows, knows-laws, knows-gives, GivesOne, gives-more}
 use Rattle.rules.proofs.Knowing.{Along, id-along, out-along, weaken-along, under-along, lift-along}
 use Rattle.rules.proofs.Fresh.{Fresh, split, fresh-under, abstract-outside}
-use Rattle.rules.proofs.Properness.{proper-at}
 
 -- two substitutions make the same of each abstract type
 abbrev pub Agree : Env → Substitution → Substitution → Env → Type 0
@@ -56,10 +53,11 @@ agree-under Γ′ θ σ Γ q s a k p x h = go (split p)
         (n : Ty) × Normal Γ (leaf (named (onPath (under q θ) p) x)) n × Normal Γ (leaf (named (onPath (under q σ) p) x)) n
     go (inl o) =
         let h′ : Has Γ′ (o .0) aType x abstract = abstract-outside (o .0) Γ′ s x (subst (λ z. Has (extend Γ′ s) z aType x abstract) (sym (o .1)) h) in
-        let w = a (o .0) x h′ in
-        (w .0,
-         subst (λ z. Normal Γ (leaf (named z x)) (w .0)) (sym (path-under-out q θ (o .0)) ∙ ap (onPath (under q θ)) (o .1)) (w .1),
-         subst (λ z. Normal Γ (leaf (named z x)) (w .0)) (sym (path-under-out q σ (o .0)) ∙ ap (onPath (under q σ)) (o .1)) (w .2))
+        let w = a (o .0) x h′ in (
+          w .0,
+          subst (λ z. Normal Γ (leaf (named z x)) (w .0)) (sym (path-under-out q θ (o .0)) ∙ ap (onPath (under q θ)) (o .1)) (w .1),
+          subst (λ z. Normal Γ (leaf (named z x)) (w .0)) (sym (path-under-out q σ (o .0)) ∙ ap (onPath (under q σ)) (o .1)) (w .2),
+        )
     go (inr f) =
         let w = abstract-along Knows knows-laws h (under q θ) Γ k in
         (w .0, w .1, subst (λ z. Normal Γ (leaf (named z x)) (w .0)) (fresh-under f q θ σ) (w .1))
@@ -68,10 +66,11 @@ agree-weaken : (Γ′ : Env) (θ σ : Substitution) (Γ : Env) (g : Signature) �
 agree-weaken Γ′ θ σ Γ g a p x h =
     let w = a p x h in
     let v = normal-along Knows knows-laws (w .1) out (extend Γ g) (out-along Γ g) in
-    let u = normal-along Knows knows-laws (w .2) out (extend Γ g) (out-along Γ g) in
-    (v .0,
-     subst (λ z. Normal (extend Γ g) (leaf (named z x)) (v .0)) (path-comp out θ p) (v .1),
-     subst₂ (λ z n. Normal (extend Γ g) (leaf (named z x)) n) (path-comp out σ p) (same u v) (u .1))
+    let u = normal-along Knows knows-laws (w .2) out (extend Γ g) (out-along Γ g) in (
+      v .0,
+      subst (λ z. Normal (extend Γ g) (leaf (named z x)) (v .0)) (path-comp out θ p) (v .1),
+      subst₂ (λ z n. Normal (extend Γ g) (leaf (named z x)) n) (path-comp out σ p) (same u v) (u .1),
+    )
   where
     same :
         {Γ : Env} {t t′ n : Ty} → (u : (m : Ty) × Normal Γ t m × Normal Γ n m) → (v : (m : Ty) × Normal Γ t′ m × Normal Γ n m) → u .0 ≡ v .0
@@ -110,9 +109,9 @@ mutual
   atAll-shown empty Γ′ Γ θ q g w a b = tt
   atAll-shown (more c x d) Γ′ Γ θ q g w a b =
       let new : find (sortOf (onDeclaration (lift θ) d)) x (onComponents (lift θ) c) ≡ None =
-            ap (λ s. find s x (onComponents (lift θ) c)) (sort-on (lift θ) d) ∙ find-on-none (lift θ) (sortOf d) x c (w .1) in
+      ap (λ s. find s x (onComponents (lift θ) c)) (sort-on (lift θ) d) ∙ find-on-none (lift θ) (sortOf d) x c (w .1) in
       let h = exact-has Γ q (more (onComponents (lift θ) c) x (onDeclaration (lift θ) d)) (sortOf (onDeclaration (lift θ) d)) x
-                (onDeclaration (lift θ) d) (structure g, a, longer b) (find-last (onComponents (lift θ) c) x (onDeclaration (lift θ) d) new) in
+      (onDeclaration (lift θ) d) (structure g, a, longer b) (find-last (onComponents (lift θ) c) x (onDeclaration (lift θ) d) new) in
       let h′ = subst₂ (λ s e. Has Γ q s x e) (sort-on (lift θ) d) (declaration-reading-lift q θ d) h in
       (atAll-shown c Γ′ Γ θ q g (w .0) a (begins-before b), atOne-shown d (extend Γ′ (structure c)) Γ (under q θ) q x (w .2) h′)
 
@@ -135,11 +134,11 @@ meet-functor s r ms mr Γ′ Γ θ σ w k l a =
     let m : Fits Γ (onSignature σ s) (onSignature θ s) = ms Γ′ Γ σ θ (w .0) l k (agree-sym Γ′ θ σ Γ a) in
     let Γ+ = extend Γ (onSignature σ s) in
     let k+ : Along (lift θ) (extend Γ′ s) Γ+ =
-          under-along (after out θ) Γ′ Γ+ innermost s (weaken-along θ Γ′ Γ (onSignature σ s) k)
-            (subst (Knows Γ+ innermost) (signature-comp out θ s) (knows-gives (fits-fresh m))) in
+    under-along (after out θ) Γ′ Γ+ innermost s (weaken-along θ Γ′ Γ (onSignature σ s) k)
+    (subst (Knows Γ+ innermost) (signature-comp out θ s) (knows-gives (fits-fresh m))) in
     fFunctor m
-      (mr (extend Γ′ s) Γ+ (lift θ) (lift σ) (w .1) k+ (lift-along σ Γ′ Γ s l)
-        (agree-under Γ′ (after out θ) (after out σ) Γ+ innermost s (agree-weaken Γ′ θ σ Γ (onSignature σ s) a) k+))
+    (mr (extend Γ′ s) Γ+ (lift θ) (lift σ) (w .1) k+ (lift-along σ Γ′ Γ s l)
+    (agree-under Γ′ (after out θ) (after out σ) Γ+ innermost s (agree-weaken Γ′ θ σ Γ (onSignature σ s) a) k+))
 
 mutual
   -- a path that shows a signature read along θ gives it read along σ
@@ -148,7 +147,7 @@ mutual
       Shown Γ q θ s → Gives Γ q (onSignature σ s)
   shown-gives (structure c) Γ′ Γ θ σ q w k l a h =
       gStructure (h .0 .0) (h .0 .1)
-        (subst (GivesAll Γ q) (sym (components-reading-lift q σ c)) (shownAll-gives c Γ′ Γ θ σ q w k l a (h .0) (h .1)))
+      (subst (GivesAll Γ q) (sym (components-reading-lift q σ c)) (shownAll-gives c Γ′ Γ θ σ q w k l a (h .0) (h .1)))
   shown-gives (functor s r) Γ′ Γ θ σ q w k l a h =
       gFunctor (onSignature θ (functor s r)) h (meet-functor s r (proper-fits s) (proper-fits r) Γ′ Γ θ σ w k l a)
 
@@ -160,14 +159,14 @@ mutual
       let m = shownAll-gives c Γ′ Γ θ σ q (w .0) k l a g (h .0) in
       let m′ = shownAll-gives c Γ′ Γ θ θ q (w .0) k k (agree-self Γ′ θ Γ k) g (h .0) in
       let l+ : Along (under q σ) (extend Γ′ (structure c)) Γ =
-            under-along σ Γ′ Γ q (structure c) l
-              (knows-gives (gStructure (g .0) (g .1) (subst (GivesAll Γ q) (sym (components-reading-lift q σ c)) m))) in
+      under-along σ Γ′ Γ q (structure c) l
+      (knows-gives (gStructure (g .0) (g .1) (subst (GivesAll Γ q) (sym (components-reading-lift q σ c)) m))) in
       let k+ : Along (under q θ) (extend Γ′ (structure c)) Γ =
-            under-along θ Γ′ Γ q (structure c) k
-              (knows-gives (gStructure (g .0) (g .1) (subst (GivesAll Γ q) (sym (components-reading-lift q θ c)) m′))) in
+      under-along θ Γ′ Γ q (structure c) k
+      (knows-gives (gStructure (g .0) (g .1) (subst (GivesAll Γ q) (sym (components-reading-lift q θ c)) m′))) in
       gives-more Γ q (onComponents (under q σ) c) x (onDeclaration (under q σ) d) m
-        (shownOne-gives d (extend Γ′ (structure c)) Γ (under q θ) (under q σ) q x (w .2) k+ l+
-          (agree-under Γ′ θ σ Γ q (structure c) a k+) (h .1))
+      (shownOne-gives d (extend Γ′ (structure c)) Γ (under q θ) (under q σ) q x (w .2) k+ l+
+      (agree-under Γ′ θ σ Γ q (structure c) a k+) (h .1))
 
   shownOne-gives :
       (d : Declaration) (Γ′ Γ : Env) (θ σ : Substitution) (q : ModulePath) (x : Name) → ProperOne Γ′ d → Along θ Γ′ Γ → Along σ Γ′ Γ → Agree Γ′ θ σ Γ →
@@ -184,23 +183,23 @@ mutual
   proper-fits (structure c) Γ′ Γ θ σ w k l a =
       let Γ+ = extend Γ (onSignature θ (structure c)) in
       let shown = atAll-shown c Γ′ Γ+ (after out θ) innermost (onComponents (lift (after out θ)) c) w
-            (subst (At Γ+ innermost) (signature-comp out θ (structure c)) (head refl)) all in
+      (subst (At Γ+ innermost) (signature-comp out θ (structure c)) (head refl)) all in
       fStructure
-        (shownAll-gives c Γ′ Γ+ (after out θ) (after out σ) innermost w
-          (weaken-along θ Γ′ Γ (onSignature θ (structure c)) k) (weaken-along σ Γ′ Γ (onSignature θ (structure c)) l)
-          (agree-weaken Γ′ θ σ Γ (onSignature θ (structure c)) a)
-          (onComponents (lift out) (onComponents (lift θ) c), head refl) shown)
+      (shownAll-gives c Γ′ Γ+ (after out θ) (after out σ) innermost w
+      (weaken-along θ Γ′ Γ (onSignature θ (structure c)) k) (weaken-along σ Γ′ Γ (onSignature θ (structure c)) l)
+      (agree-weaken Γ′ θ σ Γ (onSignature θ (structure c)) a)
+      (onComponents (lift out) (onComponents (lift θ) c), head refl) shown)
   proper-fits (functor s r) Γ′ Γ θ σ w k l a = meet-functor s r (proper-fits s) (proper-fits r) Γ′ Γ θ σ w k l a
 
 -- matching is reflexive on proper signatures
 pub fits-self : (Γ : Env) (s : Signature) → Proper Γ s → Fits Γ s s
 fits-self Γ s w =
     subst₂ (Fits Γ) (signature-id s) (signature-id s)
-      (proper-fits s Γ Γ at at w (id-along Γ) (id-along Γ) (agree-self Γ at Γ (id-along Γ)))
+    (proper-fits s Γ Γ at at w (id-along Γ) (id-along Γ) (agree-self Γ at Γ (id-along Γ)))
 
 -- a path gives what it leads to
 pub at-gives : (Γ : Env) (p : ModulePath) (s : Signature) → Proper Γ s → At Γ p s → Gives Γ p s
 at-gives Γ p s w a =
     subst (Gives Γ p) (signature-id s)
-      (shown-gives s Γ Γ at at p w (id-along Γ) (id-along Γ) (agree-self Γ at Γ (id-along Γ))
-        (at-shown s Γ Γ at p w (subst (At Γ p) (sym (signature-id s)) a)))
+    (shown-gives s Γ Γ at at p w (id-along Γ) (id-along Γ) (agree-self Γ at Γ (id-along Γ))
+    (at-shown s Γ Γ at p w (subst (At Γ p) (sym (signature-id s)) a)))

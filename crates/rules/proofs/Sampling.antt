@@ -1,7 +1,6 @@
 -- The samples by running the checker.
-use mathlib.Core.Path.{_≡_, refl, sym, _∙_, ap}
+use mathlib.Core.Path.{_≡_, refl}
 use mathlib.Core.Bool.{Bool, true, false}
-use Rattle.std.specs.declared.option.Option.the-variants.{Some}
 use Rattle.cores.specs.MiniMl.{mlRule}
 use Rattle.rules.specs.Signatures.{Signature}
 use Rattle.rules.specs.Syntax.{CompilationUnit}
@@ -9,10 +8,9 @@ use Rattle.rules.specs.Projects.{Units, DerivedFor}
 use Rattle.rules.specs.Checker.{given, checkUnits, fits}
 use Rattle.rules.specs.Statements.{CheckDecides, FitDecides}
 use Rattle.rules.specs.Samples.{Derivable, Samples}
-use mathlib.Core.List.{List, [], _∷_}
-use Prim.Native.Nat.{ℕ}
+use mathlib.Core.List.{[], _∷_}
 use lib.ListN.{length}
-use Rattle.types.specs.Types.{Ty, leaf, numbered, label0, label2}
+use Rattle.types.specs.Types.{leaf, numbered, label0, label2}
 use Rattle.cores.specs.Meaning.{Outcome, gives, refuses, Stable}
 use Rattle.cores.specs.MiniMl.{mlWords}
 use Rattle.cores.specs.declared.interface.Operation.the-variants.{Function}
@@ -41,21 +39,21 @@ unfit d us u s q l =
 
 pub samples : CheckDecides mlRule → FitDecides mlRule → Samples
 samples c f = record {
-    emptyProject = derivable c _ refl;
-    fitsNothing = f _ _ _ .1 refl;
-    fitsInt = f _ _ _ .1 refl;
-    notBool = unfit f _ _ _ refl;
-    sealed = refused c _ refl;
-    open′ = derivable c _ refl;
-    alias = derivable c _ refl;
-    generative = refused c _ refl;
-    applications = derivable c _ refl;
-    wrongArgument = refused c _ refl;
-    behind = derivable c _ refl;
-    behindToo = derivable c _ refl;
-    before = refused c _ refl;
-    missing = refused c _ refl
-  }
+  emptyProject = derivable c _ refl;
+  fitsNothing = f _ _ _ .1 refl;
+  fitsInt = f _ _ _ .1 refl;
+  notBool = unfit f _ _ _ refl;
+  sealed = refused c _ refl;
+  unsealed = derivable c _ refl;
+  alias = derivable c _ refl;
+  generative = refused c _ refl;
+  applications = derivable c _ refl;
+  wrongArgument = refused c _ refl;
+  behind = derivable c _ refl;
+  behindToo = derivable c _ refl;
+  before = refused c _ refl;
+  missing = refused c _ refl;
+}
 
 -- a function of an abstract type is accepted, and no more once that type is a function's
 first-order : Stable (length mlWords) firstOrderRule → ⊥
@@ -68,31 +66,31 @@ first-order law =
 
 pub errors-caught : CheckDecides mlRule → ErrorsCaught
 errors-caught c = record {
-    firstOrder = first-order;
-    asksLess = derivable c _ refl;
-    asksMore = refused c _ refl;
-    nested = derivable c _ refl
-  }
+  firstOrder = first-order;
+  asksLess = derivable c _ refl;
+  asksMore = refused c _ refl;
+  nested = derivable c _ refl;
+}
 
 pub fault-runs : FaultRuns
 fault-runs = record {
-    noType = refl;
-    noValue = refl;
-    noModule = refl;
-    noUnit = refl;
-    sealed = refl;
-    generative = refl;
-    applies = refl;
-    missing = refl;
-    otherValue = refl;
-    otherType = refl;
-    otherKind = refl;
-    otherKindInside = refl;
-    parameter = refl;
-    typeFits = refl;
-    typeLarge = refl;
-    allFits = refl;
-    structureLarge = refl;
-    functorLarge = refl;
-    signatureLarge = refl
-  }
+  noType = refl;
+  noValue = refl;
+  noModule = refl;
+  noUnit = refl;
+  sealed = refl;
+  generative = refl;
+  applies = refl;
+  missing = refl;
+  otherValue = refl;
+  otherType = refl;
+  otherKind = refl;
+  otherKindInside = refl;
+  parameter = refl;
+  typeFits = refl;
+  typeLarge = refl;
+  allFits = refl;
+  structureLarge = refl;
+  functorLarge = refl;
+  signatureLarge = refl;
+}

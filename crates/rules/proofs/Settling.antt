@@ -1,19 +1,18 @@
 -- Settled signatures: every type in them is its own normal form. Where only such are known, one replacement normalizes a type.
-use mathlib.Core.Path.{_≡_, refl, sym, _∙_, ap, ap₂, subst, subst₂}
-use mathlib.Core.Bool.{Bool, true, false}
+use mathlib.Core.Path.{_≡_, refl, sym, _∙_, ap, subst}
+use mathlib.Core.Bool.{Bool, true}
 use mathlib.Core.Logic.{_⊎_, inl, inr}
-use Prim.Native.Nat.{ℕ, zero, suc}
 use Rattle.std.specs.declared.option.Option.{Option}
 use Rattle.std.specs.declared.option.Option.the-variants.{Some, None}
 use Rattle.types.specs.Types.{Name, Head, ModulePath, at, dot, named, numbered, Ty, leaf, label0, label1, label2}
-use Rattle.rules.specs.Signatures.{Sort, aType, aValue, aModule, Signature, structure, functor, Components, empty, more, Declaration, abstract, defined, value, nested, sortOf, find, onSome}
-use Rattle.rules.specs.Substitution.{Substitution, under, outward, innermost, onPath, out, lift, reading, onType, onSignature, onComponents, onDeclaration}
+use Rattle.rules.specs.Signatures.{Sort, aType, aModule, Signature, structure, functor, Components, empty, more, Declaration, abstract, defined, value, nested, sortOf, find, onSome}
+use Rattle.rules.specs.Substitution.{Substitution, onPath, out, lift, reading, onType, onSignature, onComponents, onDeclaration}
 use Rattle.rules.specs.Lookup.{Env, extend, At, head, inside, Has, Normal, opaque, unfolds, bare, part, parts}
 use Rattle.rules.specs.Checker.{andThen, given, unless, declared, moduleOf, lookup, put, normalType}
-use Rattle.rules.proofs.Algebra.{after, signature-id, sort-on, type-reading-on}
-use Rattle.rules.proofs.Finding.{clash, find-on-some, find-on-none, find-cases, find-sort, Begins, all, onward, at-unique, normal-unique}
-use Rattle.rules.proofs.Inner.{Typed, Proper, ProperAll, ProperOne, ProperEnv}
-use Rattle.rules.proofs.Along.{From, Laws, under-from, lift-from, at-along, extend-cases, was-abstract, was-defined, was-some}
+use Rattle.rules.proofs.Algebra.{signature-id, sort-on, type-reading-on}
+use Rattle.rules.proofs.Finding.{clash, find-on-some, find-on-none, find-cases, Begins, all, onward, normal-unique}
+use Rattle.rules.proofs.Inner.{Proper, ProperAll, ProperOne, ProperEnv}
+use Rattle.rules.proofs.Along.{From, under-from, lift-from, at-along, extend-cases, was-abstract, was-defined, was-some}
 use Rattle.rules.proofs.Exact.{Exact, exact-laws, exact-has, exact-at, longer, out-from}
 use Rattle.rules.proofs.Reflexive.{has-at}
 
@@ -59,14 +58,14 @@ normal-exactly : {Γ′ : Env} {t n : Ty} → Normal Γ′ t n → (θ : Substit
 normal-exactly (opaque {p = p} {x = x} h) θ Γ k =
     let c = h .components in
     opaque (exact-has Γ (onPath θ p) (onComponents (lift θ) c) aType x abstract (at-along Exact exact-laws (h .leads) θ Γ k)
-      (find-on-some (lift θ) aType x c abstract (h .found ∙ ap Some (was-abstract (reading p) (h .declared) (h .reads)))))
+    (find-on-some (lift θ) aType x c abstract (h .found ∙ ap Some (was-abstract (reading p) (h .declared) (h .reads)))))
 normal-exactly (unfolds {p = p} {x = x} {n = n} t h m) θ Γ k =
     let c = h .components in
     let w = was-defined (reading p) (h .declared) t (h .reads) in
     unfolds (onType (reading (onPath θ p)) (onType (lift θ) (w .0)))
-      (exact-has Γ (onPath θ p) (onComponents (lift θ) c) aType x (defined (onType (lift θ) (w .0))) (at-along Exact exact-laws (h .leads) θ Γ k)
-        (find-on-some (lift θ) aType x c (defined (w .0)) (h .found ∙ ap Some (w .1))))
-      (subst (λ z. Normal Γ z (onType θ n)) (sym (ap (onType θ) (w .2)) ∙ type-reading-on θ p (w .0)) (normal-exactly m θ Γ k))
+    (exact-has Γ (onPath θ p) (onComponents (lift θ) c) aType x (defined (onType (lift θ) (w .0))) (at-along Exact exact-laws (h .leads) θ Γ k)
+    (find-on-some (lift θ) aType x c (defined (w .0)) (h .found ∙ ap Some (w .1))))
+    (subst (λ z. Normal Γ z (onType θ n)) (sym (ap (onType θ) (w .2)) ∙ type-reading-on θ p (w .0)) (normal-exactly m θ Γ k))
 normal-exactly bare θ Γ k = bare
 normal-exactly (part m) θ Γ k = part (normal-exactly m θ Γ k)
 normal-exactly (parts m m′) θ Γ k = parts (normal-exactly m θ Γ k) (normal-exactly m′ θ Γ k)
@@ -74,16 +73,18 @@ normal-exactly (parts m m′) θ Γ k = parts (normal-exactly m θ Γ k) (normal
 mutual
   pub settled-along : (s : Signature) (Γ′ Γ : Env) (θ : Substitution) → From Exact θ Γ′ Γ → Settled Γ′ s → Settled Γ (onSignature θ s)
   settled-along (structure c) Γ′ Γ θ k w = settledAll-along c Γ′ Γ θ k w
-  settled-along (functor s r) Γ′ Γ θ k w =
-      (settled-along s Γ′ Γ θ k (w .0),
-       settled-along r (extend Γ′ s) (extend Γ (onSignature θ s)) (lift θ) (lift-from Exact exact-laws θ Γ′ Γ s k) (w .1))
+  settled-along (functor s r) Γ′ Γ θ k w = (
+    settled-along s Γ′ Γ θ k (w .0),
+    settled-along r (extend Γ′ s) (extend Γ (onSignature θ s)) (lift θ) (lift-from Exact exact-laws θ Γ′ Γ s k) (w .1),
+  )
 
   settledAll-along : (c : Components) (Γ′ Γ : Env) (θ : Substitution) → From Exact θ Γ′ Γ → SettledAll Γ′ c → SettledAll Γ (onComponents (lift θ) c)
   settledAll-along empty Γ′ Γ θ k w = tt
-  settledAll-along (more c x d) Γ′ Γ θ k w =
-      (settledAll-along c Γ′ Γ θ k (w .0),
-       ap (λ s. find s x (onComponents (lift θ) c)) (sort-on (lift θ) d) ∙ find-on-none (lift θ) (sortOf d) x c (w .1),
-       settledOne-along d (extend Γ′ (structure c)) (extend Γ (onSignature θ (structure c))) (lift θ) (lift-from Exact exact-laws θ Γ′ Γ (structure c) k) (w .2))
+  settledAll-along (more c x d) Γ′ Γ θ k w = (
+    settledAll-along c Γ′ Γ θ k (w .0),
+    ap (λ s. find s x (onComponents (lift θ) c)) (sort-on (lift θ) d) ∙ find-on-none (lift θ) (sortOf d) x c (w .1),
+    settledOne-along d (extend Γ′ (structure c)) (extend Γ (onSignature θ (structure c))) (lift θ) (lift-from Exact exact-laws θ Γ′ Γ (structure c) k) (w .2),
+  )
 
   settledOne-along : (d : Declaration) (Γ′ Γ : Env) (θ : Substitution) → From Exact θ Γ′ Γ → SettledOne Γ′ d → SettledOne Γ (onDeclaration θ d)
   settledOne-along abstract Γ′ Γ θ k w = tt
@@ -94,7 +95,7 @@ mutual
 pub settled-extend : (Γ : Env) (s : Signature) → SettledEnv Γ → Settled Γ s → SettledEnv (extend Γ s)
 settled-extend Γ s e w =
     extend-cases Γ s (λ h t. Settled (extend Γ s) t) (settled-along s Γ (extend Γ s) out (out-from Exact exact-laws Γ s) w)
-      (λ h t f. settled-along t Γ (extend Γ s) out (out-from Exact exact-laws Γ s) (e h t f))
+    (λ h t f. settled-along t Γ (extend Γ s) out (out-from Exact exact-laws Γ s) (e h t f))
 
 pub settled-finer : (Γ′ Γ : Env) (s : Signature) → From Exact at Γ′ Γ → Settled Γ′ s → Settled Γ s
 settled-finer Γ′ Γ s k w = subst (Settled Γ) (signature-id s) (settled-along s Γ′ Γ at k w)
@@ -118,10 +119,10 @@ settled-component :
 settled-component Γ p c a w s x d f =
     let v = settled-found Γ c w s x d f in
     settledOne-along d (extend Γ (structure (v .0))) Γ (reading p)
-      (under-from Exact exact-laws at Γ Γ p (structure (v .0))
-        (λ h t e. subst (Exact Γ (at h)) (sym (signature-id t)) (exact-at (head e)))
-        (subst (Exact Γ p) (sym (signature-id (structure (v .0)))) (structure c, a, longer (v .1))))
-      (v .2)
+    (under-from Exact exact-laws at Γ Γ p (structure (v .0))
+    (λ h t e. subst (Exact Γ (at h)) (sym (signature-id t)) (exact-at (head e)))
+    (subst (Exact Γ p) (sym (signature-id (structure (v .0)))) (structure c, a, longer (v .1))))
+    (v .2)
 
 pub settled-at : {Γ : Env} {p : ModulePath} {s : Signature} → SettledEnv Γ → At Γ p s → Settled Γ s
 settled-at e (head {h = h} {s = s} f) = e h s f
@@ -131,7 +132,7 @@ settled-at {Γ} e (inside {p = p} {x = x} c d a f r) =
 pub settled-has : {Γ : Env} {p : ModulePath} {s : Sort} {x : Name} {d : Declaration} → SettledEnv Γ → Has Γ p s x d → SettledOne Γ d
 settled-has {Γ} {p} {s} {x} {d} e h =
     subst (SettledOne Γ) (h .reads)
-      (settled-component Γ p (h .components) (h .leads) (settled-at e (h .leads)) s x (h .declared) (h .found))
+    (settled-component Γ p (h .components) (h .leads) (settled-at e (h .leads)) s x (h .declared) (h .found))
 
 -- the functions find what the relations say
 pub then-some : {A B : Type 0} (o : Option A) (f : A → Option B) (b : B) → andThen o f ≡ Some b → (a : A) × (o ≡ Some a) × (f a ≡ Some b)

@@ -1,24 +1,22 @@
 -- Strengthening: it keeps signatures proper, and what a path gives of its signature it gives of the strengthened one.
 use mathlib.Core.Path.{_≡_, refl, sym, _∙_, ap, ap₂, subst, subst₂}
 use mathlib.Core.Bool.{Bool, true, false, cond, _&&_}
-use Prim.Native.Nat.{ℕ, zero, suc}
 use Rattle.std.specs.shelf.Text.{sameBytes}
 use Rattle.std.proofs.shelf.Equals.{sameBytes-decides}
 use Rattle.std.specs.declared.option.Option.{Option}
 use Rattle.std.specs.declared.option.Option.the-variants.{Some, None}
-use Rattle.types.specs.Types.{Name, Head, unit, binder, ModulePath, at, dot, named, Ty, leaf}
-use Rattle.rules.specs.Signatures.{Sort, aType, aValue, aModule, Signature, structure, functor, Components, empty, more, Declaration, abstract, defined, value, nested, sortOf, sameSort, firstOf, find, onSome}
-use Rattle.rules.specs.Substitution.{Substitution, under, outward, innermost, onPath, out, lift, reading, onType, onSignature, onComponents, onDeclaration}
-use Rattle.rules.specs.Lookup.{Env, extend, At, head, inside, Has, Normal, opaque, unfolds}
+use Rattle.types.specs.Types.{Name, ModulePath, at, dot, named, leaf}
+use Rattle.rules.specs.Signatures.{Sort, Signature, structure, functor, Components, empty, more, Declaration, abstract, defined, value, nested, sortOf, sameSort, firstOf, find, onSome}
+use Rattle.rules.specs.Substitution.{Substitution, under, innermost, onPath, out, lift, reading, onSignature, onComponents, onDeclaration}
+use Rattle.rules.specs.Lookup.{Env, extend, At, head, Has, unfolds}
 use Rattle.rules.specs.Strengthening.{strengthen, strengthenAll, strengthenOne}
-use Rattle.rules.proofs.Algebra.{after, path-under-out, path-lift-out, path-comp, path-id, signature-comp, signature-id, components-reading-lift, declaration-reading-lift, sort-on}
-use Rattle.rules.proofs.Finding.{clash, find-last, find-on-none, Begins, all, begins-before}
-use Rattle.rules.proofs.Inner.{Typed, Gives, gStructure, gFunctor, GivesAll, gNone, gAbstract, gDefined, gValue, gNested, Fits, Proper, ProperAll, ProperOne, ProperEnv}
+use Rattle.rules.proofs.Algebra.{after, path-under-out, path-lift-out, path-id, signature-comp, signature-id, components-reading-lift, declaration-reading-lift, sort-on}
+use Rattle.rules.proofs.Finding.{find-last, find-on-none, Begins, all, begins-before}
+use Rattle.rules.proofs.Inner.{Typed, Gives, gStructure, gFunctor, GivesAll, gNone, gAbstract, gDefined, gValue, gNested, Fits, Proper, ProperAll, ProperOne}
 use Rattle.rules.proofs.Along.{typed-along}
 use Rattle.rules.proofs.Exact.{exact-has, longer}
 use Rattle.rules.proofs.Transitive.{Knows, knows-laws, knows-gives, GivesOne, gives-last}
 use Rattle.rules.proofs.Knowing.{Along, id-along, out-along, weaken-along, under-along, knows-fits}
-use Rattle.rules.proofs.Properness.{proper-at}
 use Rattle.rules.proofs.Reflexive.{Shown, ShownAll, ShownOne, has-at, shown-gives, agree-self, at-gives}
 
 mutual
@@ -65,9 +63,9 @@ mutual
   pub gives-strengthen : {Γ : Env} {p : ModulePath} {s : Signature} → Gives Γ p s → Gives Γ p (strengthen p s)
   gives-strengthen (gStructure {Γ = Γ} {p = p} {c = c} g a m) =
       gStructure g a
-        (subst (GivesAll Γ p)
-          (sym (strengthenAll-on c (reading p) (onPath out p) ∙ ap (λ q. strengthenAll q (onComponents (reading p) c)) (path-reading-out p p)))
-          (givesAll-strengthen m))
+      (subst (GivesAll Γ p)
+      (sym (strengthenAll-on c (reading p) (onPath out p) ∙ ap (λ q. strengthenAll q (onComponents (reading p) c)) (path-reading-out p p)))
+      (givesAll-strengthen m))
   gives-strengthen (gFunctor f a m) = gFunctor f a m
 
   givesAll-strengthen : {Γ : Env} {p : ModulePath} {c : Components} → GivesAll Γ p c → GivesAll Γ p (strengthenAll p c)
@@ -131,9 +129,10 @@ mutual
   strengthened-shown :
       (s : Signature) (Γ′ Γ : Env) (θ : Substitution) (p q : ModulePath) → Proper Γ′ s → Named Γ p s →
       At Γ q (strengthen p (onSignature θ s)) → Shown Γ q θ s
-  strengthened-shown (structure c) Γ′ Γ θ p q w v a =
-      ((strengthenAll (onPath out p) (onComponents (lift θ) c), a),
-       strengthenedAll-shown c Γ′ Γ θ p q (strengthenAll (onPath out p) (onComponents (lift θ) c)) w v a all)
+  strengthened-shown (structure c) Γ′ Γ θ p q w v a = (
+    (strengthenAll (onPath out p) (onComponents (lift θ) c), a),
+    strengthenedAll-shown c Γ′ Γ θ p q (strengthenAll (onPath out p) (onComponents (lift θ) c)) w v a all,
+  )
   strengthened-shown (functor s r) Γ′ Γ θ p q w v a = a
 
   strengthenedAll-shown :
@@ -147,14 +146,15 @@ mutual
       let d″ = strengthenOne p′ x d′ in
       let sorts : sortOf d″ ≡ sortOf d = strengthen-sort p′ x d′ ∙ sort-on (lift θ) d in
       let new : find (sortOf d″) x (strengthenAll p′ c′) ≡ None =
-            ap (λ s. find s x (strengthenAll p′ c′)) sorts
-            ∙ (strengthen-find p′ (sortOf d) x c′ ∙ ap (onSome (strengthenOne p′ x)) (find-on-none (lift θ) (sortOf d) x c (w .1))) in
+      ap (λ s. find s x (strengthenAll p′ c′)) sorts
+      ∙ (strengthen-find p′ (sortOf d) x c′ ∙ ap (onSome (strengthenOne p′ x)) (find-on-none (lift θ) (sortOf d) x c (w .1))) in
       let h = exact-has Γ q (more (strengthenAll p′ c′) x d″) (sortOf d″) x d″ (structure g, a, longer b) (find-last (strengthenAll p′ c′) x d″ new) in
       let reads : onDeclaration (reading q) d″ ≡ strengthenOne p x (onDeclaration (under q θ) d) =
-            strengthenOne-on d′ (reading q) p′ x
-            ∙ ap₂ (λ o e. strengthenOne o x e) (path-reading-out q p) (declaration-reading-lift q θ d) in
-      (strengthenedAll-shown c Γ′ Γ θ p q g (w .0) (v .0) a (begins-before b),
-       strengthenedOne-shown d (extend Γ′ (structure c)) Γ (under q θ) p q x (w .2) (v .1) (subst₂ (λ s e. Has Γ q s x e) sorts reads h))
+      strengthenOne-on d′ (reading q) p′ x
+      ∙ ap₂ (λ o e. strengthenOne o x e) (path-reading-out q p) (declaration-reading-lift q θ d) in (
+        strengthenedAll-shown c Γ′ Γ θ p q g (w .0) (v .0) a (begins-before b),
+        strengthenedOne-shown d (extend Γ′ (structure c)) Γ (under q θ) p q x (w .2) (v .1) (subst₂ (λ s e. Has Γ q s x e) sorts reads h),
+      )
 
   strengthenedOne-shown :
       (d : Declaration) (Γ′ Γ : Env) (θ : Substitution) (p q : ModulePath) (x : Name) → ProperOne Γ′ d → NamedOne Γ p x d →
@@ -186,15 +186,16 @@ mutual
       let θ+ = after out θ in
       let k⁺ = weaken-along θ Γ′ Γ g k in
       let here : At Γ+ innermost (strengthen p′ (onSignature θ+ (structure c))) =
-            subst (At Γ+ innermost) (strengthen-on (structure c′) out p ∙ ap (strengthen p′) (signature-comp out θ (structure c))) (head refl) in
+      subst (At Γ+ innermost) (strengthen-on (structure c′) out p ∙ ap (strengthen p′) (signature-comp out θ (structure c))) (head refl) in
       let shown = strengthened-shown (structure c) Γ′ Γ+ θ+ p′ innermost (w .0) (namedAll-out c Γ g p (v .0)) here in
       let k+ : Along (lift θ) (extend Γ′ (structure c)) Γ+ =
-            under-along θ+ Γ′ Γ+ innermost (structure c) k⁺
-              (knows-gives (shown-gives (structure c) Γ′ Γ+ θ+ θ+ innermost (w .0) k⁺ k⁺ (agree-self Γ′ θ+ Γ+ k⁺) shown)) in
-      (properAll-strengthen c Γ′ Γ θ p (w .0) k (v .0) (u .0),
-       ap (λ s. find s x (strengthenAll p′ c′)) sorts
-         ∙ (strengthen-find p′ (sortOf d) x c′ ∙ ap (onSome (strengthenOne p′ x)) (find-on-none (lift θ) (sortOf d) x c (w .1))),
-       properOne-strengthen d (extend Γ′ (structure c)) Γ+ (lift θ) p′ x (w .2) k+ (namedOne-out d Γ g p x (v .1)))
+      under-along θ+ Γ′ Γ+ innermost (structure c) k⁺
+      (knows-gives (shown-gives (structure c) Γ′ Γ+ θ+ θ+ innermost (w .0) k⁺ k⁺ (agree-self Γ′ θ+ Γ+ k⁺) shown)) in (
+        properAll-strengthen c Γ′ Γ θ p (w .0) k (v .0) (u .0),
+        ap (λ s. find s x (strengthenAll p′ c′)) sorts
+            ∙ (strengthen-find p′ (sortOf d) x c′ ∙ ap (onSome (strengthenOne p′ x)) (find-on-none (lift θ) (sortOf d) x c (w .1))),
+        properOne-strengthen d (extend Γ′ (structure c)) Γ+ (lift θ) p′ x (w .2) k+ (namedOne-out d Γ g p x (v .1)),
+      )
 
   properOne-strengthen :
       (d : Declaration) (Γ′ Γ : Env) (θ : Substitution) (p : ModulePath) (x : Name) → ProperOne Γ′ d → Along θ Γ′ Γ → NamedOne Γ p x d →
@@ -209,7 +210,7 @@ pub proper-strengthen : (Γ : Env) (p : ModulePath) (s : Signature) → Proper �
 proper-strengthen Γ p s w a =
     let m = subst (Gives Γ p) (sym (signature-id s)) (at-gives Γ p s w a) in
     subst (λ z. Proper Γ (strengthen p z)) (signature-id s)
-      (proper-strengthen′ s Γ Γ at p w (id-along Γ) (gives-named s Γ at p m) (subst (Proper Γ) (sym (signature-id s)) w))
+    (proper-strengthen′ s Γ Γ at p w (id-along Γ) (gives-named s Γ at p m) (subst (Proper Γ) (sym (signature-id s)) w))
 
 -- what the strengthened signature of a path matches, the path gives
 pub strengthened-gives : (Γ : Env) (p : ModulePath) (s s′ : Signature) → Proper Γ s → At Γ p s → Fits Γ (strengthen p s) s′ → Gives Γ p s′

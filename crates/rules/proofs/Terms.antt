@@ -1,18 +1,15 @@
 -- Terms: their types are one, and go along to a finer environment by the core's law.
-use mathlib.Core.Path.{_≡_, refl, sym, _∙_, ap, ap₂, subst, subst₂}
+use mathlib.Core.Path.{_≡_, refl, sym, ap₂, subst}
 use mathlib.Core.List.{List, [], _∷_}
 use Prim.Native.Nat.{ℕ}
-use Rattle.std.specs.declared.option.Option.{Option}
-use Rattle.std.specs.declared.option.Option.the-variants.{Some, None}
-use Rattle.types.specs.Types.{Name, ModulePath, at, Ty}
-use Rattle.cores.specs.Meaning.{Outcome, gives, Stable}
+use Rattle.types.specs.Types.{at, Ty}
+use Rattle.cores.specs.Meaning.{Outcome, Stable}
 use Rattle.cores.specs.declared.interface.Operation.{Operation}
 use Rattle.cores.specs.declared.interface.Operation.the-variants.{Literal, Function, Operator}
 use Rattle.rules.specs.Signatures.{aValue, value}
-use Rattle.rules.specs.Substitution.{onType}
 use Rattle.rules.specs.Lookup.{Env, Has, Normal}
-use Rattle.rules.specs.Syntax.{Term, Terms, typeOf}
-use Rattle.rules.specs.Rules.{pick, TermHas, ofVariable, ofComponent, ofInteger, ofOperation, ofLambda, TermsHave, noneHave, moreHave}
+use Rattle.rules.specs.Syntax.{Term, Terms}
+use Rattle.rules.specs.Rules.{TermHas, ofVariable, ofComponent, ofInteger, ofOperation, ofLambda, TermsHave, noneHave, moreHave}
 use Rattle.rules.proofs.Algebra.{path-id, type-id}
 use Rattle.rules.proofs.Finding.{has-unique, normal-unique}
 use Rattle.rules.proofs.Along.{value-along}

@@ -6,14 +6,13 @@ use Prim.Native.Nat.{ℕ, _+_}
 use Rattle.types.specs.Types.{at, Ty}
 use Rattle.cores.specs.Meaning.{Outcome, Stable}
 use Rattle.cores.specs.declared.interface.Operation.{Operation}
-use Rattle.rules.specs.Lookup.{Env}
 use Rattle.rules.specs.Signatures.{Signature}
 use Rattle.rules.specs.Soundness.{Sound}
 use Rattle.rules.specs.Matching.{Matches}
 use Rattle.rules.specs.Syntax.{CompilationUnit}
 use Rattle.rules.specs.Rules.{Derives, byMatching}
-use Rattle.rules.specs.Projects.{Units, Loads, DerivedFor, Own, FitsUnit}
-use Rattle.rules.specs.Statements.{NormalFormsExist, MatchingReflexive, MatchingTransitive, StrengtheningExact, DerivedIsSound, OneSignature, SixthRuleLast, LoadsAlike, DerivedExactly, OwnIsOne, OwnIsLeast, CheckDecides, FitDecides, CheckedIsOwn, RunDecides, RunFitDecides, MismatchIsFirst, NoMismatchMatches, RefusalsMean, KnownIsTidy}
+use Rattle.rules.specs.Projects.{Units, DerivedFor, FitsUnit}
+use Rattle.rules.specs.Statements.{NormalFormsExist, MatchingReflexive, MatchingTransitive, StrengtheningExact, DerivedIsSound, OneSignature, SixthRuleLast, LoadsAlike, DerivedExactly, OwnIsOne, OwnIsLeast, CheckDecides, FitDecides, CheckedIsOwn, RunDecides, RunFitDecides, MismatchIsFirst, NoMismatchMatches, RefusalsMean, KnownIsTidy, NumbersExact}
 use Rattle.std.specs.declared.option.Option.{Option}
 use Rattle.std.specs.declared.option.Option.the-variants.{Some, None}
 use Rattle.rules.specs.Checker.{check, checkUnits, normalize, doesMatch, given, fits}
@@ -24,12 +23,16 @@ use Rattle.rules.proofs.Normalizing.{normalize-is, normalize-proper}
 use Rattle.rules.proofs.Deciding.{match-tells, match-found}
 use Rattle.rules.proofs.Checking.{check-checks}
 use Rattle.std.specs.declared.result.Result.the-variants.{Ok}
-use Rattle.rules.specs.Syntax.{SignatureText, signatureOf}
-use Rattle.rules.specs.Faults.{mismatch, Known, runUnits, runUnit, runFit, isAccepted, isSize}
+use Rattle.rules.specs.Syntax.{signatureOf}
+use Rattle.rules.specs.Faults.{mismatch, Known, runUnits, runUnit}
 use Rattle.rules.specs.Signatures.{extent}
 use Rattle.rules.proofs.Failing.{tidy-settled, mismatch-first}
 use Rattle.rules.proofs.Refusing.{module-told}
-use Rattle.rules.proofs.Tidying.{settled-normal, check-tidy}
+use Rattle.rules.proofs.Tidying.{settled-normal, check-tidy, run-laid}
+use Rattle.rules.specs.Sizes.{byNumber}
+use Rattle.rules.proofs.Leaves.{leaf-law}
+use Rattle.rules.proofs.Numbering.{numbers-give}
+use Rattle.cores.specs.Meaning.{gives}
 use Rattle.rules.proofs.Mirror.{isNone, mismatch-is, module-agrees, units-agree, accepts-some, some-accepts, ok-some, units-accepted, accepted-units, units-known, fit-agrees, given-some, some-given}
 use Rattle.rules.proofs.Checked.{derives-finds, check-knows, loads-check}
 use Rattle.rules.proofs.Transitive.{fits-trans}
@@ -62,9 +65,10 @@ pub strengthening-exact : StrengtheningExact
 strengthening-exact Γ b p s w a v =
     let e = built-proper b in
     let pw = sound-proper w Γ e v in
-    let ps = proper-at e a in
-    ((λ o. fits-matches (gives-strengthened s w Γ p e a pw (offers-gives o e pw))),
-     (λ m. gives-offers (strengthened-gives Γ p s w ps a (matches-fits m e (proper-strengthen Γ p s ps a) pw))))
+    let ps = proper-at e a in (
+      (λ o. fits-matches (gives-strengthened s w Γ p e a pw (offers-gives o e pw))),
+      (λ m. gives-offers (strengthened-gives Γ p s w ps a (matches-fits m e (proper-strengthen Γ p s ps a) pw))),
+    )
 
 pub mismatch-is-first : MismatchIsFirst
 mismatch-is-first Γ t a b q v m f = mismatch-first Γ t a b q (sound-proper b Γ (settled-env-proper Γ (tidy-settled t)) v) m f
@@ -79,9 +83,10 @@ no-mismatch-matches Γ t a b q v =
     let ep = settled-env-proper Γ e in
     let s = normalize-is a Γ a e q .settled in
     let p = sound-proper b Γ ep v in
-    let is = mismatch-is (extent a + extent b) Γ None a b in
-    ((λ f. fits-matches (match-tells Γ a b e s p (sym is ∙ ap isNone f))),
-     (λ m. none-of (mismatch Γ a b) (is ∙ match-found Γ a b e s p (matches-fits m ep (settled-proper a Γ s) p))))
+    let is = mismatch-is (extent a + extent b) Γ None a b in (
+      (λ f. fits-matches (match-tells Γ a b e s p (sym is ∙ ap isNone f))),
+      (λ m. none-of (mismatch Γ a b) (is ∙ match-found Γ a b e s p (matches-fits m ep (settled-proper a Γ s) p))),
+    )
 
 module _ {C : Type 0} (n : ℕ) (rule : Operation → List Ty → Outcome C) (law : Stable n rule) where
   pub derived-is-sound : DerivedIsSound rule
@@ -91,17 +96,19 @@ module _ {C : Type 0} (n : ℕ) (rule : Operation → List Ty → Outcome C) (la
   one-signature Γ m s w d d′ = derives-unique rule d d′
 
   pub sixth-rule-last : SixthRuleLast rule
-  sixth-rule-last Γ b m s =
-      ((λ d.
+  sixth-rule-last Γ b m s = (
+    (λ d.
         let e = built-proper b in
         let i = principal n rule law d e Γ e (id-along Γ) in
         (i .0, i .1, proper-sound s Γ (derives-proper n rule law d e), fits-matches (i .2))),
-       (λ w. byMatching (w .0) refl (derives-freely (w .1)) (w .2) (w .3)))
+    (λ w. byMatching (w .0) refl (derives-freely (w .1)) (w .2) (w .3)),
+  )
 
   pub loads-alike : LoadsAlike rule
-  loads-alike us =
-      ((λ l. let w = loads-principal n rule law (l .1) in (w .0, w .1)),
-       (λ l. (l .0, loads-freely (l .1))))
+  loads-alike us = (
+    (λ l. let w = loads-principal n rule law (l .1) in (w .0, w .1)),
+    (λ l. (l .0, loads-freely (l .1))),
+  )
 
   to-own : (us : Units) (u : CompilationUnit) (s : Signature) → DerivedFor rule us u s → FitsUnit rule us u s
   to-own us u s d =
@@ -115,15 +122,15 @@ module _ {C : Type 0} (n : ℕ) (rule : Operation → List Ty → Outcome C) (la
         least = i .0;
         own = record { before = w .1; derived = i .1 };
         sound = proper-sound s Γ (proper-finer (d .known) Γ s (w .2) (derives-proper n rule law (d .derived) e′));
-        matches = fits-matches (i .2)
+        matches = fits-matches (i .2);
       }
 
   from-own : (us : Units) (u : CompilationUnit) (s : Signature) → FitsUnit rule us u s → DerivedFor rule us u s
   from-own us u s w = record {
-      known = w .known;
-      before = loads-freely (w .own .before);
-      derived = byMatching (w .least) refl (derives-freely (w .own .derived)) (w .sound) (w .matches)
-    }
+    known = w .known;
+    before = loads-freely (w .own .before);
+    derived = byMatching (w .least) refl (derives-freely (w .own .derived)) (w .sound) (w .matches);
+  }
 
   pub derived-exactly : DerivedExactly rule
   derived-exactly us u s = (to-own us u s, from-own us u s)
@@ -134,17 +141,19 @@ module _ {C : Type 0} (n : ℕ) (rule : Operation → List Ty → Outcome C) (la
       (q, derives-unique rule (o .derived) (subst (λ z. Derives rule false z (u .body) w) (sym q) (o′ .derived)))
 
   pub own-is-least : OwnIsLeast rule
-  own-is-least us u Γ g o =
-      (record { known = Γ; before = loads-freely (o .before); derived = derives-freely (o .derived) },
-       λ s d.
-         let w = to-own us u s d in
-         let q = own-is-one us u (w .known) Γ (w .least) g (w .own) o in
-         (subst (λ z. Sound z s) (q .0) (w .sound), subst₂ (λ z l. Matches z l s) (q .0) (q .1) (w .matches)))
+  own-is-least us u Γ g o = (
+    record { known = Γ; before = loads-freely (o .before); derived = derives-freely (o .derived) },
+    λ s d.
+        let w = to-own us u s d in
+        let q = own-is-one us u (w .known) Γ (w .least) g (w .own) o in
+        (subst (λ z. Sound z s) (q .0) (w .sound), subst₂ (λ z l. Matches z l s) (q .0) (q .1) (w .matches)),
+  )
 
   pub check-decides : CheckDecides rule
-  check-decides us =
-      ((λ l. let w = loads-check n rule law (l .1) in (w .known, w .is)),
-       (λ c. let w = check-knows n rule law us (c .0) (c .1) in (w .own, loads-freely (w .loads))))
+  check-decides us = (
+    (λ l. let w = loads-check n rule law (l .1) in (w .known, w .is)),
+    (λ c. let w = check-knows n rule law us (c .0) (c .1) in (w .own, loads-freely (w .loads))),
+  )
 
   to-fit : (us : Units) (u : CompilationUnit) (s : Signature) → DerivedFor rule us u s → fits rule us u s ≡ true
   to-fit us u s d =
@@ -157,8 +166,8 @@ module _ {C : Type 0} (n : ℕ) (rule : Operation → List Ty → Outcome C) (la
       let i = normalize-is s Γ (q .0) (l .settled) (q .1) in
       let m = match-found Γ (f .checked) (q .0) (l .settled) (f .settled) (settled-proper (q .0) Γ (i .settled)) (fits-trans (f .matches) (i .forth)) in
       given-is (checkUnits rule us) (λ Γ. given (check rule Γ (u .body)) (λ g. given (normalize Γ s) (λ w. doesMatch Γ g w))) Γ (l .is)
-        (given-is (check rule Γ (u .body)) (λ g. given (normalize Γ s) (λ w. doesMatch Γ g w)) (f .checked) (f .is)
-          (given-is (normalize Γ s) (λ w. doesMatch Γ (f .checked) w) (q .0) (q .1) m))
+      (given-is (check rule Γ (u .body)) (λ g. given (normalize Γ s) (λ w. doesMatch Γ g w)) (f .checked) (f .is)
+      (given-is (normalize Γ s) (λ w. doesMatch Γ (f .checked) w) (q .0) (q .1) m))
 
   from-fit : (us : Units) (u : CompilationUnit) (s : Signature) → fits rule us u s ≡ true → DerivedFor rule us u s
   from-fit us u s q =
@@ -177,7 +186,7 @@ module _ {C : Type 0} (n : ℕ) (rule : Operation → List Ty → Outcome C) (la
         known = Δ;
         before = loads-freely (k .loads);
         derived = byMatching (o .0) refl (derives-freely (o .1)) (proper-sound s Δ (proper-finer Γ Δ s (k .finer) (i .proper)))
-          (fits-matches (fits-trans (o .2) (fits-finer (k .finer) f)))
+            (fits-matches (fits-trans (o .2) (fits-finer (k .finer) f)));
       }
 
   pub fit-decides : FitDecides rule
@@ -196,17 +205,19 @@ module _ {C : Type 0} (n : ℕ) (rule : Operation → List Ty → Outcome C) (la
       let i = principal n rule law (j .derives) (settled-env-proper Γ (k .settled)) Δ eΔ forth in
       let own = derives-unique rule (i .1) (o .derived) in
       let f = derives-finds n rule law (o .derived) eΔ Γ (k .settled) back in
-      let found : f .checked ≡ s = some-is (sym (f .is) ∙ c) in
-      (fits-matches (fits-trans (subst (λ z. Fits Δ z (j .own)) own (i .2)) (fits-finer forth (j .matches))),
-       fits-matches (fits-finer forth (subst (λ z. Fits Γ z g) found (f .matches))))
+      let found : f .checked ≡ s = some-is (sym (f .is) ∙ c) in (
+        fits-matches (fits-trans (subst (λ z. Fits Δ z (j .own)) own (i .2)) (fits-finer forth (j .matches))),
+        fits-matches (fits-finer forth (subst (λ z. Fits Γ z g) found (f .matches))),
+      )
     where
       some-is : {A : Type 0} {a b : A} → Some a ≡ Some b → a ≡ b
       some-is e = cc
 
   pub run-decides : RunDecides rule
-  run-decides us q =
-      ((λ l. let w = check-decides us .0 l in accepted-units (units-agree rule us) q (w .0) (w .1)),
-       (λ e. check-decides us .1 (units-accepted (units-agree rule us) e)))
+  run-decides us q = (
+    (λ l. let w = check-decides us .0 l in accepted-units (units-agree rule us) q (w .0) (w .1)),
+    (λ e. check-decides us .1 (units-accepted (units-agree rule us) e)),
+  )
 
   -- fit, where the unit and those before it are accepted
   fits-is :
@@ -224,21 +235,33 @@ module _ {C : Type 0} (n : ℕ) (rule : Operation → List Ty → Outcome C) (la
       let Γ = w .signatures in
       let s = signatureOf t in
       let is = fits-is us u w g s p q in
-      let agrees = fit-agrees {C = C} w g t in
-      ((λ d.
-        let e = to-fit us u s d in
-        let v = given-some (normalize Γ s) (λ a. doesMatch Γ g a) (sym is ∙ e) in
-        some-accepts agrees k (v .0) (v .1)),
-       (λ e.
-        let v = accepts-some agrees e in
-        from-fit us u s (is ∙ some-given (normalize Γ s) (λ a. doesMatch Γ g a) (v .0) (v .1))))
+      let agrees = fit-agrees {C = C} w g t in (
+        (λ d.
+            let e = to-fit us u s d in
+            let v = given-some (normalize Γ s) (λ a. doesMatch Γ g a) (sym is ∙ e) in
+            some-accepts agrees k (v .0) (v .1)),
+        (λ e.
+            let v = accepts-some agrees e in
+            from-fit us u s (is ∙ some-given (normalize Γ s) (λ a. doesMatch Γ g a) (v .0) (v .1))),
+      )
 
   pub refusals-mean : RefusalsMean rule
-  refusals-mean from Γ k m f t q = module-told n rule law m from Γ k f (tidy-settled t) q
+  refusals-mean from Γ k m f t l q = module-told n rule law m from Γ k f (tidy-settled t) l q
 
   pub known-is-tidy : KnownIsTidy rule
   known-is-tidy us w q =
       let Γ = w .signatures in
       let t = check-tidy n rule law us Γ (units-known (units-agree rule us) w q) in
       let e = tidy-settled t in
-      (t, λ u g r. settled-normal g Γ e (check-checks n rule law (u .body) Γ g e (ok-some (module-agrees rule (u .body) (w .stand) Γ (w .length)) g r) .settled))
+      (t, run-laid rule us w q, λ u g r. settled-normal g Γ e (check-checks n rule law (u .body) Γ g e (ok-some (module-agrees rule (u .body) (w .stand) Γ (w .length)) g r) .settled))
+
+  pub numbers-exact : NumbersExact rule
+  numbers-exact from Γ k l o ns w t = (
+    (λ q.
+        let v = numbers-give from Γ k l n rule law o ns w t q in
+        (v .0, v .1, gives-is (sym (leaf-law n rule law (byNumber from Γ) o ns (v .0) (v .1)) ∙ q))),
+    (λ v. leaf-law n rule law (byNumber from Γ) o ns (v .0) (v .1) ∙ ap gives (v .2)),
+  )
+    where
+      gives-is : {a b : Ty} → _≡_ {A = Outcome C} (gives a) (gives b) → a ≡ b
+      gives-is e = cc

@@ -1,18 +1,17 @@
 -- Matching along substitutions and transitivity, which need each other at functors.
-use mathlib.Core.Path.{_≡_, refl, sym, _∙_, ap, ap₂, subst, subst₂}
+use mathlib.Core.Path.{_≡_, subst, subst₂}
 use mathlib.Core.Logic.{_⊎_, inl, inr}
-use Prim.Native.Nat.{ℕ, zero, suc, _+_, _≤_}
+use Prim.Native.Nat.{ℕ, zero, suc, _≤_}
 use native.Mathlib.Omega.{arith}
 use native.Mathlib.Nat.{le-refl}
-use Rattle.std.specs.declared.option.Option.{Option}
 use Rattle.std.specs.declared.option.Option.the-variants.{Some, None}
-use Rattle.types.specs.Types.{Name, Head, ModulePath, at, dot, named, Ty, leaf}
-use Rattle.rules.specs.Signatures.{Sort, aType, aValue, aModule, Signature, structure, functor, Components, empty, more, Declaration, abstract, defined, value, nested, sortOf, find, extent, extentAll, extentOne}
-use Rattle.rules.specs.Substitution.{Substitution, innermost, onPath, out, lift, reading, onType, onSignature, onComponents, onDeclaration}
+use Rattle.types.specs.Types.{Name, ModulePath, at, dot, named, Ty, leaf}
+use Rattle.rules.specs.Signatures.{Sort, aType, aValue, aModule, Signature, structure, functor, Components, empty, more, Declaration, abstract, defined, value, nested, sortOf, find, extent}
+use Rattle.rules.specs.Substitution.{innermost, onPath, out, reading, onType, onSignature, onComponents, onDeclaration}
 use Rattle.rules.specs.Lookup.{Env, extend, At, Has, Normal}
 use Rattle.rules.proofs.Algebra.{extent-on, signature-id, components-id}
 use Rattle.rules.proofs.Finding.{clash, find-on-some, find-cases, extent-found, normal-unique}
-use Rattle.rules.proofs.Inner.{Typed, Gives, gStructure, gFunctor, GivesAll, gNone, gAbstract, gDefined, gValue, gNested, Fits, fStructure, fFunctor}
+use Rattle.rules.proofs.Inner.{Typed, Gives, gStructure, gFunctor, GivesAll, gAbstract, gDefined, gValue, gNested, Fits, fStructure, fFunctor}
 use Rattle.rules.proofs.Along.{Laws, From, fits-along, givesAll-along}
 use Rattle.rules.proofs.Exact.{Exact, exact-laws, gives-weaken, fits-fresh, narrow-from}
 
@@ -124,15 +123,15 @@ module _ (n : ℕ) (tf : ThroughFunctors n) where
 
   pub upto-laws : Laws (Upto n)
   upto-laws = record {
-      exact = λ Γ h s e. inl (exact-laws .exact Γ h s e);
-      below = upto-below;
-      isStructure = upto-structure;
-      ofAbstract = upto-abstract;
-      ofDefined = upto-defined;
-      ofValue = upto-value;
-      ofFunctor = upto-functor;
-      weaken = upto-weaken
-    }
+    exact = λ Γ h s e. inl (exact-laws .exact Γ h s e);
+    below = upto-below;
+    isStructure = upto-structure;
+    ofAbstract = upto-abstract;
+    ofDefined = upto-defined;
+    ofValue = upto-value;
+    ofFunctor = upto-functor;
+    weaken = upto-weaken;
+  }
 
   -- a fresh binder of a signature that matches
   upto-fresh : (Γ : Env) (a b : Signature) → extent b ≤ n → Fits Γ a b → From (Upto n) at (extend Γ b) (extend Γ a)
@@ -144,8 +143,8 @@ module _ (n : ℕ) (tf : ThroughFunctors n) where
   through : Through n
   through Γ a b c l (fStructure {g = g} {c = w} m) (fStructure {c = v} m′) =
       fStructure
-        (subst (GivesAll (extend Γ (structure g)) innermost) (components-id v)
-          (givesAll-along (Upto n) upto-laws m′ at (extend Γ (structure g)) (upto-fresh Γ (structure g) (structure w) l (fStructure m))))
+      (subst (GivesAll (extend Γ (structure g)) innermost) (components-id v)
+      (givesAll-along (Upto n) upto-laws m′ at (extend Γ (structure g)) (upto-fresh Γ (structure g) (structure w) l (fStructure m))))
   through Γ a b c l (fFunctor {s = s₁} {r = r₁} {s′ = s} {r′ = r} p q) (fFunctor {s′ = s′} {r′ = r′} p′ q′) =
       tf Γ (functor s₁ r₁) s r s′ r′ l (fFunctor p q) (fFunctor p′ q′)
 
@@ -154,10 +153,10 @@ module _ (n : ℕ) (tf : ThroughFunctors n) where
       let l₁ : extent s ≤ n = omega arith in
       let l₂ : extent r ≤ n = omega arith in
       fFunctor (through Γ s′ s s₁ l₁ p′ p)
-        (through (extend Γ s′) r₁ r r′ l₂
-          (subst₂ (Fits (extend Γ s′)) (signature-id r₁) (signature-id r)
-            (fits-along (Upto n) upto-laws q at (extend Γ s′) (upto-fresh Γ s′ s l₁ p′)))
-          q′)
+      (through (extend Γ s′) r₁ r r′ l₂
+      (subst₂ (Fits (extend Γ s′)) (signature-id r₁) (signature-id r)
+      (fits-along (Upto n) upto-laws q at (extend Γ s′) (upto-fresh Γ s′ s l₁ p′)))
+      q′)
 
 through-functors : (n : ℕ) → ThroughFunctors n
 through-functors zero = λ Γ f s r s′ r′ l m m′. let z : ⊥ = omega arith in absurd z
@@ -173,15 +172,15 @@ Knows Γ q s = (n : ℕ) × Upto n Γ q s
 
 pub knows-laws : Laws Knows
 knows-laws = record {
-    exact = λ Γ h s e. (0, laws 0 .exact Γ h s e);
-    below = λ Γ q c x s k f. (k .0, laws (k .0) .below Γ q c x s (k .1) f);
-    isStructure = λ Γ q c k. laws (k .0) .isStructure Γ q c (k .1);
-    ofAbstract = λ Γ q c x k f. laws (k .0) .ofAbstract Γ q c x (k .1) f;
-    ofDefined = λ Γ q c x t n k f m. laws (k .0) .ofDefined Γ q c x t n (k .1) f m;
-    ofValue = λ Γ q c x t n k f m. laws (k .0) .ofValue Γ q c x t n (k .1) f m;
-    ofFunctor = λ Γ q f s r k m. laws (k .0) .ofFunctor Γ q f s r (k .1) m;
-    weaken = λ Γ g q s k. (k .0, laws (k .0) .weaken Γ g q s (k .1))
-  }
+  exact = λ Γ h s e. (0, laws 0 .exact Γ h s e);
+  below = λ Γ q c x s k f. (k .0, laws (k .0) .below Γ q c x s (k .1) f);
+  isStructure = λ Γ q c k. laws (k .0) .isStructure Γ q c (k .1);
+  ofAbstract = λ Γ q c x k f. laws (k .0) .ofAbstract Γ q c x (k .1) f;
+  ofDefined = λ Γ q c x t n k f m. laws (k .0) .ofDefined Γ q c x t n (k .1) f m;
+  ofValue = λ Γ q c x t n k f m. laws (k .0) .ofValue Γ q c x t n (k .1) f m;
+  ofFunctor = λ Γ q f s r k m. laws (k .0) .ofFunctor Γ q f s r (k .1) m;
+  weaken = λ Γ g q s k. (k .0, laws (k .0) .weaken Γ g q s (k .1));
+}
   where
     laws : (n : ℕ) → Laws (Upto n)
     laws n = upto-laws n (through-functors n)

@@ -1,19 +1,16 @@
 -- In proper environments the wording of the rules and the wording of the proofs say the same.
-use mathlib.Core.Path.{_≡_, refl, sym, _∙_, ap, ap₂, subst, subst₂}
-use Prim.Native.Nat.{ℕ, zero, suc}
-use Rattle.std.specs.declared.option.Option.{Option}
-use Rattle.std.specs.declared.option.Option.the-variants.{Some, None}
-use Rattle.types.specs.Types.{Name, Head, unit, binder, ModulePath, at, dot, named, numbered, Ty, leaf, label0, label1, label2}
-use Rattle.rules.specs.Signatures.{Sort, aType, aValue, aModule, Signature, structure, functor, Components, empty, more, Declaration, abstract, defined, value, nested, sortOf, find, onSome}
-use Rattle.rules.specs.Substitution.{Substitution, under, outward, innermost, onPath, out, lift, reading, onType, onSignature, onComponents, onDeclaration}
-use Rattle.rules.specs.Lookup.{Env, extend, At, head, inside, Has, Normal, opaque, unfolds, bare, part, parts, Same}
+use mathlib.Core.Path.{refl, subst}
+use Rattle.types.specs.Types.{ModulePath, named, numbered, Ty, leaf, label0, label1, label2}
+use Rattle.rules.specs.Signatures.{Signature, structure, functor, Components, empty, more, Declaration, abstract, defined, value, nested}
+use Rattle.rules.specs.Substitution.{innermost, out, lift, reading, onComponents}
+use Rattle.rules.specs.Lookup.{Env, extend, At, head, Normal, opaque, unfolds, bare, part, parts}
 use Rattle.rules.specs.Soundness.{Leads, Sound, SoundAll, SoundOne}
 use Rattle.rules.specs.Matching.{Offers, structures, functors, OffersAll, none, anyType, sameType, sameValue, subModule, Matches, fresh, crossed}
 use Rattle.rules.proofs.Algebra.{components-fresh}
 use Rattle.rules.proofs.Inner.{Typed, Gives, gStructure, gFunctor, GivesAll, gNone, gAbstract, gDefined, gValue, gNested, Fits, fStructure, fFunctor, Proper, ProperAll, ProperOne, ProperEnv}
 use Rattle.rules.proofs.Exact.{fits-fresh}
 use Rattle.rules.proofs.Transitive.{knows-gives}
-use Rattle.rules.proofs.Knowing.{Along, out-along, reading-along, narrow-along}
+use Rattle.rules.proofs.Knowing.{out-along, reading-along, narrow-along}
 use Rattle.rules.proofs.Properness.{proper-along, properOne-along, proper-at, proper-extend, proper-finer, has-typed}
 use Rattle.rules.proofs.Converse.{normal-has}
 
@@ -91,10 +88,11 @@ ReadAll Γ p (more c x d) = ReadAll Γ p c × (GivesAll Γ p c → ProperOne Γ 
 
 read-all : (c : Components) (Γ : Env) (p : ModulePath) → ProperAll Γ c → (g : Components) × At Γ p (structure g) → ReadAll Γ p (onComponents (reading p) c)
 read-all empty Γ p w g = tt
-read-all (more c x d) Γ p w g =
-    (read-all c Γ p (w .0) g,
-     λ m. properOne-along d (extend Γ (structure c)) Γ (reading p)
-       (reading-along Γ p (structure c) (knows-gives (gStructure (g .0) (g .1) m))) (w .2))
+read-all (more c x d) Γ p w g = (
+  read-all c Γ p (w .0) g,
+  λ m. properOne-along d (extend Γ (structure c)) Γ (reading p)
+      (reading-along Γ p (structure c) (knows-gives (gStructure (g .0) (g .1) m))) (w .2),
+)
 
 -- to the proofs' wording
 mutual
@@ -115,10 +113,10 @@ mutual
   matches-fits (fresh {Γ = Γ} {g = g} {c = c} m) e w w′ =
       let Γ+ = extend Γ (structure g) in
       let read = read-all (onComponents (lift out) c) Γ+ innermost (proper-along (structure c) Γ Γ+ out (out-along Γ (structure g)) w′)
-            (onComponents (lift out) g, head refl) in
+      (onComponents (lift out) g, head refl) in
       fStructure (offersAll-gives m (proper-extend Γ (structure g) e w) (subst (ReadAll Γ+ innermost) (components-fresh c) read))
   matches-fits (crossed {Γ = Γ} {s = s} {r = r} {s′ = s′} a b) e w w′ =
       let f = matches-fits a e (w′ .0) (w .0) in
       fFunctor f
-        (matches-fits b (proper-extend Γ s′ e (w′ .0))
-          (proper-finer (extend Γ s) (extend Γ s′) r (narrow-along Γ s′ s (knows-gives (fits-fresh f))) (w .1)) (w′ .1))
+      (matches-fits b (proper-extend Γ s′ e (w′ .0))
+      (proper-finer (extend Γ s) (extend Γ s′) r (narrow-along Γ s′ s (knows-gives (fits-fresh f))) (w .1)) (w′ .1))

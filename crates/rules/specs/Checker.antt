@@ -1,6 +1,5 @@
 -- The rules without the sixth, as a function. It keeps every type that it knows in normal form, so that one replacement of paths
 -- gives the normal form of a type; it tells no causes.
-use mathlib.Core.Path.{_≡_}
 use mathlib.Core.Bool.{Bool, true, false, cond, _&&_}
 use mathlib.Core.List.{List, [], _∷_}
 use Prim.Native.Nat.{ℕ, zero, suc, _+_}
@@ -129,7 +128,7 @@ matchesTo (suc n) Γ (structure g) (functor s r) = false
 matchesTo (suc n) Γ (functor s r) (structure c) = false
 matchesTo (suc n) Γ (functor s r) (functor w v) =
     given (normalize Γ w)
-      (λ a. matchesTo n Γ a s && given (normalize (extend Γ a) r) (λ b. matchesTo n (extend Γ a) b v))
+    (λ a. matchesTo n Γ a s && given (normalize (extend Γ a) r) (λ b. matchesTo n (extend Γ a) b v))
 
 -- whether a signature matches another: the structures and functors in both together bound the depth
 abbrev pub doesMatch : Env → Signature → Signature → Bool
@@ -149,7 +148,7 @@ abbrev mutual
   termType rule Γ Δ (operation place k ts) = andThen (termTypes rule Γ Δ ts) (λ ns. accepted (rule (Operator k) ns))
   termType rule Γ Δ (lambda place t b) =
       andThen (normalType Γ (typeOf t))
-        (λ a. andThen (termType rule Γ (typeOf t ∷ Δ) b) (λ r. accepted (rule Function (a ∷ r ∷ []))))
+      (λ a. andThen (termType rule Γ (typeOf t ∷ Δ) b) (λ r. accepted (rule Function (a ∷ r ∷ []))))
 
   pub termTypes : {C : Type 0} → (Operation → List Ty → Outcome C) → Env → List Ty → Terms → Option (List Ty)
   termTypes rule Γ Δ noTerms = Some []
@@ -160,7 +159,7 @@ abbrev pub apply : Env → ModulePath → Signature → Option Signature
 apply Γ p (structure c) = None
 apply Γ p (functor s r) =
     andThen (lookup Γ p)
-      (λ a. andThen (normalize Γ (strengthen p a)) (λ b. cond (doesMatch Γ b s) (normalize Γ (onSignature (reading p) r)) None))
+    (λ a. andThen (normalize Γ (strengthen p a)) (λ b. cond (doesMatch Γ b s) (normalize Γ (onSignature (reading p) r)) None))
 
 -- the signature of a module
 abbrev mutual
@@ -188,7 +187,7 @@ abbrev pub checkUnits : {C : Type 0} → (Operation → List Ty → Outcome C) �
 checkUnits rule noUnits = Some unknown
 checkUnits rule (moreUnits us u) =
     andThen (checkUnits rule us)
-      (λ Γ. unless (Γ (unit (u .name))) (andThen (check rule Γ (u .body)) (λ s. Some (withUnit (u .name) s Γ))))
+    (λ Γ. unless (Γ (unit (u .name))) (andThen (check rule Γ (u .body)) (λ s. Some (withUnit (u .name) s Γ))))
 
 -- whether a signature fits a unit behind these units
 abbrev pub fits : {C : Type 0} → (Operation → List Ty → Outcome C) → Units → CompilationUnit → Signature → Bool

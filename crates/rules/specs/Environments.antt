@@ -2,9 +2,8 @@
 use mathlib.Core.Path.{_≡_}
 use mathlib.Core.Bool.{cond}
 use Rattle.std.specs.shelf.Text.{sameBytes}
-use Rattle.std.specs.declared.option.Option.{Option}
 use Rattle.std.specs.declared.option.Option.the-variants.{Some, None}
-use Rattle.types.specs.Types.{Name, Head, unit, binder}
+use Rattle.types.specs.Types.{Name, unit, binder}
 use Rattle.rules.specs.Signatures.{Signature}
 use Rattle.rules.specs.Lookup.{Env, extend}
 use Rattle.rules.specs.Soundness.{Sound}

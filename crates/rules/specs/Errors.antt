@@ -1,5 +1,5 @@
 -- Three errors that a definition of the rules or of a core could have, each caught by a statement.
-use mathlib.Core.Bool.{Bool, true, false, cond, _&&_}
+use mathlib.Core.Bool.{Bool, true, false, cond}
 use mathlib.Core.List.{List, [], _∷_}
 use lib.Chars.{codes}
 use lib.ListN.{length}
@@ -9,9 +9,8 @@ use Rattle.cores.specs.MiniMl.{mlRule, mlWords}
 use Rattle.cores.specs.declared.interface.Operation.{Operation}
 use Rattle.cores.specs.declared.interface.Operation.the-variants.{Literal, Function, Operator}
 use Rattle.cores.specs.declared.lines.Position.{Position}
-use Rattle.rules.specs.Substitution.{innermost}
 use Rattle.rules.specs.Syntax.{pathText, SignatureText, sigText, functorText, noSpecs, moreSpecs, valueSpec, moduleSpec, Module, modulePath, struct, functorOf, ascribed, Items, noItems, component}
-use Rattle.rules.specs.Samples.{Derivable, alone, withLet, withModule, own, valueX, yes′, choose, nothingWanted, S, M, transparent}
+use Rattle.rules.specs.Samples.{Derivable, alone, withLet, withModule, own, valueX, trueTerm, choose, nothingWanted, S, M, transparent}
 
 -- whether the body's type is a function type of mini-ML
 abbrev pub returnsFunction : Operation → List Ty → Bool
@@ -49,6 +48,6 @@ pub record ErrorsCaught : Type 0 where
   -- a nested module's type is that of the longer path: y and N.x have one type, also once it is abstract
   pub nested :
       Derivable
-        (alone
-          (withLet (codes "z") (choose yes′ (component 0 (own (codes "A")) (codes "y")) (valueX (dot (own (codes "A")) (codes "N"))))
-          (withModule (codes "A") (ascribed 0 0 nestedGiven nestedWanted) noItems)))
+      (alone
+      (withLet (codes "z") (choose trueTerm (component 0 (own (codes "A")) (codes "y")) (valueX (dot (own (codes "A")) (codes "N"))))
+      (withModule (codes "A") (ascribed 0 0 nestedGiven nestedWanted) noItems)))

@@ -3,7 +3,7 @@ use mathlib.Core.Path.{_≡_}
 use Rattle.std.specs.declared.option.Option.{Option}
 use Rattle.std.specs.declared.option.Option.the-variants.{Some, None}
 use Rattle.types.specs.Types.{Name, unit, ModulePath, dot, named, Ty, leaf}
-use Rattle.rules.specs.Signatures.{aType, aValue, Signature, structure, functor, Components, more, Declaration, abstract, defined, value, nested, sortOf}
+use Rattle.rules.specs.Signatures.{aType, aValue, Signature, structure, functor, Components, more, Declaration, defined, value, nested, sortOf}
 use Rattle.rules.specs.Substitution.{innermost, reading, onComponents}
 use Rattle.rules.specs.Lookup.{Env, extend, At, Has, Same}
 use Rattle.rules.specs.Matching.{OffersAll, Matches}

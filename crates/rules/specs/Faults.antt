@@ -1,5 +1,5 @@
 -- The checker with its faults: the first question that is answered no, in text order, parts before wholes.
-use mathlib.Core.Bool.{Bool, true, false, cond, _&&_}
+use mathlib.Core.Bool.{Bool, true, false, cond}
 use mathlib.Core.List.{List, [], _∷_, map}
 use Prim.Native.Nat.{ℕ, zero, suc, _+_}
 use Rattle.std.specs.shelf.Text.{sameBytes}
@@ -11,7 +11,7 @@ use Rattle.types.specs.Types.{Name, Head, unit, binder, ModulePath, at, dot, na
 use Rattle.cores.specs.Meaning.{Outcome, gives, refuses}
 use Rattle.cores.specs.declared.interface.Operation.{Operation}
 use Rattle.cores.specs.declared.interface.Operation.the-variants.{Literal, Function, Operator}
-use Rattle.rules.specs.Signatures.{Sort, aType, aValue, Signature, structure, functor, Components, empty, more, Declaration, abstract, defined, value, nested, sortOf, find, firstOf, extent}
+use Rattle.rules.specs.Signatures.{aType, aValue, Signature, structure, functor, Components, empty, more, Declaration, abstract, defined, value, nested, sortOf, find, firstOf, extent}
 use Rattle.rules.specs.Substitution.{Substitution, under, innermost, reading, onType, onSignature}
 use Rattle.rules.specs.Lookup.{Env, extend}
 use Rattle.rules.specs.Strengthening.{strengthen}
@@ -86,7 +86,7 @@ abbrev mutual
   runSpecs Γ noSpecs = Ok empty
   runSpecs Γ (moreSpecs c x d) =
       next (runSpecs Γ c)
-        (λ b. mustNot (twice x) (find (sortOf (declarationOf d)) x (componentsOf c)) (next (runSpec (extend Γ (structure b)) d) (λ e. Ok (more b x e))))
+      (λ b. mustNot (twice x) (find (sortOf (declarationOf d)) x (componentsOf c)) (next (runSpec (extend Γ (structure b)) d) (λ e. Ok (more b x e))))
 
   pub runSpec : {C : Type 0} → Env → SpecText → Result Declaration (Fault C)
   runSpec Γ abstractSpec = Ok abstract
@@ -128,7 +128,7 @@ abbrev mutual
   lacksOne f Γ p θ x abstract = ifThere (Some x) (declared p aType x (lookup Γ p)) (λ d. None)
   lacksOne f Γ p θ x (defined t) =
       ifThere (Some x) (declared p aType x (lookup Γ p))
-        (λ d. ifSame (Some x) 3 (sameForm (normalType Γ (leaf (named p x))) (normalType Γ (onType θ t))))
+      (λ d. ifSame (Some x) 3 (sameForm (normalType Γ (leaf (named p x))) (normalType Γ (onType θ t))))
   lacksOne f Γ p θ x (value t) =
       ifThere (Some x) (declared p aValue x (lookup Γ p)) (λ d. ifSame (Some x) 2 (sameForm (normalValue Γ d) (normalType Γ (onType θ t))))
   lacksOne f Γ p θ x (nested s) = lacks f Γ (dot p x) θ (Some x) s
@@ -146,7 +146,7 @@ mismatchTo (suc n) Γ w (structure g) (functor s r) = fails w 4
 mismatchTo (suc n) Γ w (functor s r) (structure c) = fails w 4
 mismatchTo (suc n) Γ w (functor s r) (functor u v) =
     ifNormal w (normalize Γ u)
-      (λ a. firstOf (mismatchTo n Γ w a s) (ifNormal w (normalize (extend Γ a) r) (λ b. mismatchTo n (extend Γ a) w b v)))
+    (λ a. firstOf (mismatchTo n Γ w a s) (ifNormal w (normalize (extend Γ a) r) (λ b. mismatchTo n (extend Γ a) w b v)))
 
 -- where a signature first fails to match another, if it does
 abbrev pub mismatch : Env → Signature → Signature → Option Mismatch
@@ -158,7 +158,7 @@ matched place None r = r
 matched place (Some m) r = Err (noMatch place m)
 
 -- what a core answers: the verdict is that of its rule for the normal forms; the cause is the one that the rule tells
--- when abstract types are given by their numbers
+-- when abstract types are given by their numbers, which are refused too
 abbrev pub told : {C : Type 0} → ℕ → Outcome C → Outcome C → Result Ty (Fault C)
 told place (gives t) o = Ok t
 told place (refuses c) (gives t) = Err (refusedTypes place c)
@@ -194,7 +194,7 @@ abbrev pub runApply : {C : Type 0} → Env → ℕ → ℕ → ModulePath → Si
 runApply Γ place argument p b (structure c) = Err (noFunctor place)
 runApply Γ place argument p b (functor s r) =
     matched argument (mismatch Γ b s)
-      (next (must (noWay place) (normalize Γ (onSignature (reading p) r))) (λ n. within (smallSignature n) (tooLarge place) n))
+    (next (must (noWay place) (normalize Γ (onSignature (reading p) r))) (λ n. within (smallSignature n) (tooLarge place) n))
 
 -- a module whose signature will stand at row position k; `from` says where the known heads' signatures stand
 abbrev mutual
@@ -204,8 +204,8 @@ abbrev mutual
       next (runItems rule from Γ k is) (λ c. within (smallSignature (structure c)) (tooLarge place) (structure c))
   runModule rule from Γ k (functorOf place s m) =
       next (runSignature Γ s)
-        (λ a. next (runModule rule (under (suc k) from) (extend Γ a) (suc (k + signatureSize a)) m)
-          (λ r. within (smallSignature (functor a r)) (tooLarge place) (functor a r)))
+      (λ a. next (runModule rule (under (suc k) from) (extend Γ a) (suc (k + signatureSize a)) m)
+      (λ r. within (smallSignature (functor a r)) (tooLarge place) (functor a r)))
   runModule rule from Γ k (applied place m argument p) =
       next (runModule rule from Γ k m) (λ f. next (runPath Γ argument p) (λ b. runApply Γ place argument p b f))
   runModule rule from Γ k (ascribed place inner m s) =
@@ -215,8 +215,8 @@ abbrev mutual
   runItems rule from Γ k noItems = Ok empty
   runItems rule from Γ k (moreItems is x i) =
       next (runItems rule from Γ k is)
-        (λ c. mustNot (twice x) (find (itemSort i) x c)
-          (next (runItem rule (under k from) (extend Γ (structure c)) (suc (k + componentsSize c)) i) (λ d. Ok (more c x d))))
+      (λ c. mustNot (twice x) (find (itemSort i) x c)
+      (next (runItem rule (under k from) (extend Γ (structure c)) (suc (k + componentsSize c)) i) (λ d. Ok (more c x d))))
 
   pub runItem : {C : Type 0} → (Operation → List Ty → Outcome C) → (Head → ℕ) → Env → ℕ → Item → Result Declaration (Fault C)
   runItem rule from Γ k (typeItem t) = next (runType Γ t) (λ n. Ok (defined n))
@@ -239,10 +239,10 @@ standing x k from (binder n) = from (binder n)
 
 abbrev pub oneMore : Name → Signature → Known → Known
 oneMore x s w = record {
-    signatures = withUnit x s (w .signatures);
-    stand = standing x (w .length) (w .stand);
-    length = w .length + signatureSize s
-  }
+  signatures = withUnit x s (w .signatures);
+  stand = standing x (w .length) (w .stand);
+  length = w .length + signatureSize s;
+}
 
 -- one unit behind those that are known
 abbrev pub runUnit : {C : Type 0} → (Operation → List Ty → Outcome C) → Known → CompilationUnit → Result Signature (Fault C)
@@ -262,8 +262,8 @@ abbrev pub runUnits : {C : Type 0} → (Operation → List Ty → Outcome C) →
 runUnits rule noUnits = Ok noneKnown
 runUnits rule (moreUnits us u) =
     next (runUnits rule us)
-      (λ w. inUnit (u .name)
-        (mustNot (twice (u .name)) (w .signatures (unit (u .name))) (next (runUnit rule w u) (λ s. Ok (oneMore (u .name) s w)))))
+    (λ w. inUnit (u .name)
+    (mustNot (twice (u .name)) (w .signatures (unit (u .name))) (next (runUnit rule w u) (λ s. Ok (oneMore (u .name) s w)))))
 
 -- whether a written signature fits a unit whose own signature is g: its own questions, then the match, told at place 0
 abbrev pub runFit : {C : Type 0} → Known → Signature → SignatureText → Result Signature (Fault C)

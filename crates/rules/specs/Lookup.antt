@@ -1,7 +1,7 @@
 -- What an environment knows: where a path leads, and the normal form of a type.
 use mathlib.Core.Path.{_≡_}
 use Rattle.std.specs.declared.option.Option.{Option}
-use Rattle.std.specs.declared.option.Option.the-variants.{Some, None}
+use Rattle.std.specs.declared.option.Option.the-variants.{Some}
 use Rattle.types.specs.Types.{Name, Head, ModulePath, at, dot, named, Ty, leaf, label0, label1, label2}
 use Rattle.rules.specs.Signatures.{Sort, aType, aModule, Signature, structure, Components, Declaration, abstract, defined, nested, find, onSome}
 use Rattle.rules.specs.Substitution.{under, out, reading, onSignature, onDeclaration}

@@ -1,16 +1,15 @@
 -- What a fault means: a question that the text asks, in text order and parts before wholes, and that is answered no.
 use mathlib.Core.Path.{_≡_}
-use mathlib.Core.Bool.{Bool, false}
+use mathlib.Core.Bool.{false}
 use mathlib.Core.List.{List, [], _∷_, map}
 use Prim.Native.Nat.{ℕ, suc, _+_}
-use Rattle.std.specs.declared.option.Option.{Option}
 use Rattle.std.specs.declared.option.Option.the-variants.{Some, None}
 use Rattle.std.specs.declared.result.Result.the-variants.{Ok}
 use Rattle.types.specs.Types.{Name, Head, ModulePath, named, Ty, leaf, label0, label1, label2}
 use Rattle.cores.specs.Meaning.{Outcome, gives, refuses}
 use Rattle.cores.specs.declared.interface.Operation.{Operation}
 use Rattle.cores.specs.declared.interface.Operation.the-variants.{Literal, Function, Operator}
-use Rattle.rules.specs.Signatures.{Sort, aType, aValue, Signature, structure, functor, Components, more, Declaration, value, sortOf, find}
+use Rattle.rules.specs.Signatures.{Sort, aType, aValue, Signature, structure, functor, Components, Declaration, value, sortOf, find}
 use Rattle.rules.specs.Substitution.{under, reading, onSignature}
 use Rattle.rules.specs.Lookup.{Env, extend, At, Has}
 use Rattle.rules.specs.Strengthening.{strengthen}
@@ -18,7 +17,7 @@ use Rattle.rules.specs.Syntax.{TypeText, pathText, labelText0, labelText1, lab
 use Rattle.rules.specs.Rules.{pick, itemSort}
 use Rattle.rules.specs.Checker.{normalType, normalize}
 use Rattle.rules.specs.Sizes.{signatureSize, componentsSize, smallType, smallSignature, inNumbers}
-use Rattle.rules.specs.Faults.{Mismatch, Fault, noWay, refusedTypes, noFunctor, noMatch, tooLarge, twice, runType, runSignature, runSpecs, told, runTerm, runTerms, runPath, runModule, runItems}
+use Rattle.rules.specs.Faults.{Mismatch, Fault, noWay, refusedTypes, noFunctor, noMatch, tooLarge, twice, runType, runSignature, runSpecs, runTerm, runTerms, runPath, runModule, runItems}
 use Rattle.rules.specs.Failures.{FirstFailure}
 
 -- the questions that a text asks, each with its place and with what is known there
@@ -46,11 +45,9 @@ pub data No {C : Type 0} (rule : Operation → List Ty → Outcome C) : Question
   noValue : {Γ : Env} {place : ℕ} {p : ModulePath} {x : Name} → ((t : Ty) → Has Γ p aValue x (value t) → ⊥) → No rule (toValue Γ place p x) (noWay place)
   noModule : {Γ : Env} {place : ℕ} {p : ModulePath} → ((s : Signature) → At Γ p s → ⊥) → No rule (toModule Γ place p) (noWay place)
   noVariable : {Δ : List Ty} {place k : ℕ} → pick Δ k ≡ None → No rule (toVariable Δ place k) (noWay place)
-  -- the rule refuses the normal forms; the cause is the one for numbers
+  -- the rule refuses the normal forms, and those with numbers for abstract types, whose cause is told
   coreRefuses :
       {place : ℕ} {o : Operation} {ns ms : List Ty} (c e : C) → rule o ns ≡ refuses c → rule o ms ≡ refuses e → No rule (ofCore place o ns ms) (refusedTypes place e)
-  coreRefusesPaths :
-      {place : ℕ} {o : Operation} {ns ms : List Ty} (c : C) (t : Ty) → rule o ns ≡ refuses c → rule o ms ≡ gives t → No rule (ofCore place o ns ms) (refusedTypes place c)
   appliedStructure : {place : ℕ} {c : Components} → No rule (ofFunctor place (structure c)) (noFunctor place)
   failsFirst : {Γ : Env} {place : ℕ} {a b : Signature} {m : Mismatch} → FirstFailure Γ None a b m → No rule (ofMatch Γ place a b) (noMatch place m)
   typeOver : {place : ℕ} {t : Ty} → smallType t ≡ false → No rule (ofType place t) (tooLarge place)

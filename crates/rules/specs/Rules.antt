@@ -9,7 +9,7 @@ use Rattle.types.specs.Types.{Name, ModulePath, Ty}
 use Rattle.cores.specs.Meaning.{Outcome, gives}
 use Rattle.cores.specs.declared.interface.Operation.{Operation}
 use Rattle.cores.specs.declared.interface.Operation.the-variants.{Literal, Function, Operator}
-use Rattle.rules.specs.Signatures.{Sort, aType, aValue, aModule, Signature, structure, functor, Components, empty, more, Declaration, defined, value, nested, sameSort, find}
+use Rattle.rules.specs.Signatures.{Sort, aType, aValue, aModule, Signature, structure, functor, Components, empty, more, defined, value, nested}
 use Rattle.rules.specs.Substitution.{reading, onSignature}
 use Rattle.rules.specs.Lookup.{Env, extend, At, Has, Normal}
 use Rattle.rules.specs.Soundness.{Leads, Sound}

@@ -1,7 +1,6 @@
 -- Runs of the checker with faults over mini-ML: each fault, each cause of a mismatch, and the limits at and one past.
 -- The node that is refused stands at place 7; places that no answer tells are 0.
 use mathlib.Core.Path.{_≡_}
-use mathlib.Core.Bool.{Bool, true}
 use mathlib.Core.List.{[], _∷_}
 use Prim.Native.Nat.{ℕ, zero, suc}
 use lib.Chars.{codes}
@@ -9,14 +8,12 @@ use Rattle.std.specs.declared.option.Option.{Option}
 use Rattle.std.specs.declared.option.Option.the-variants.{Some, None}
 use Rattle.std.specs.declared.result.Result.{Result}
 use Rattle.std.specs.declared.result.Result.the-variants.{Ok, Err}
-use Rattle.types.specs.Types.{Name, unit, at, dot}
+use Rattle.types.specs.Types.{Name, unit, at}
 use Rattle.cores.specs.MiniMl.{mlRule}
 use Rattle.cores.specs.declared.lines.Position.{Position}
-use Rattle.rules.specs.Signatures.{Signature, structure, functor, empty, more, value}
-use Rattle.rules.specs.Substitution.{innermost}
 use Rattle.rules.specs.Syntax.{TypeText, pathText, labelText0, labelText1, SignatureText, sigText, functorText, SpecTexts, noSpecs, moreSpecs, abstractSpec, definedSpec, valueSpec, moduleSpec, component, operation, noTerms, moreTerms, Module, modulePath, struct, functorOf, applied, ascribed, Items, noItems, moreItems, typeItem}
-use Rattle.rules.specs.Faults.{Fault, noWay, refusedTypes, noFunctor, noMatch, tooLarge, UnitFault, Mismatch, runUnits, isAccepted}
-use Rattle.rules.specs.Samples.{one, yes′, own, valueX, withLet, withModule, nothingWanted, S, M, transparent, emptyModule, twice, alone}
+use Rattle.rules.specs.Faults.{Fault, noWay, refusedTypes, noFunctor, noMatch, tooLarge, UnitFault, runUnits}
+use Rattle.rules.specs.Samples.{one, trueTerm, own, valueX, withLet, withModule, nothingWanted, S, M, transparent, emptyModule, twice, alone}
 
 -- the fault of an answer, if it has one
 abbrev pub faultOf : {A : Type 0} → Result A (UnitFault Position) → Option (Fault Position)
@@ -73,19 +70,19 @@ pub record FaultRuns : Type 0 where
       refusal (withLet (codes "y") (operation 7 4 (moreTerms (valueX (own (codes "A"))) (moreTerms one noTerms))) (withModule (codes "A") M noItems))
       ≡ atPosition 1
   pub generative :
-      refusal (withLet (codes "y") (operation 7 5 (moreTerms yes′ (moreTerms (valueX (own (codes "A"))) (moreTerms (valueX (own (codes "B"))) noTerms)))) twice)
+      refusal (withLet (codes "y") (operation 7 5 (moreTerms trueTerm (moreTerms (valueX (own (codes "A"))) (moreTerms (valueX (own (codes "B"))) noTerms)))) twice)
       ≡ atPosition 3
   -- 14: a structure is applied
   pub applies :
       refusal
-        (withModule (codes "A") (applied 7 (modulePath 0 (own (codes "F"))) 0 (own (codes "E")))
-        (withModule (codes "E") emptyModule (withModule (codes "F") emptyModule noItems)))
+      (withModule (codes "A") (applied 7 (modulePath 0 (own (codes "F"))) 0 (own (codes "E")))
+      (withModule (codes "E") emptyModule (withModule (codes "F") emptyModule noItems)))
       ≡ Some (noFunctor 7)
   -- 15: each cause, with the component of the signature wanted
   pub missing :
       refusal
-        (withModule (codes "A") (applied 0 (modulePath 0 (own (codes "F"))) 7 (own (codes "E")))
-        (withModule (codes "E") emptyModule (withModule (codes "F") (functorOf 0 S M) noItems)))
+      (withModule (codes "A") (applied 0 (modulePath 0 (own (codes "F"))) 7 (own (codes "E")))
+      (withModule (codes "E") emptyModule (withModule (codes "F") (functorOf 0 S M) noItems)))
       ≡ mismatchAt (Some (codes "t")) 1
   pub otherValue : refusal (seen transparent (valueSig bool)) ≡ mismatchAt (Some (codes "x")) 2
   pub otherType : refusal (seen transparent (typeSig bool)) ≡ mismatchAt (Some (codes "t")) 3
@@ -96,8 +93,8 @@ pub record FaultRuns : Type 0 where
   -- the parameter wanted must match the parameter given, whose component is told; the parameter comes before the result
   pub parameter :
       refusal
-        (withModule (codes "G") (ascribed 0 7 (modulePath 0 (own (codes "F"))) (functorText 0 nothingWanted (valueSig bool)))
-        (withModule (codes "F") (functorOf 0 (valueSig int) emptyModule) noItems))
+      (withModule (codes "G") (ascribed 0 7 (modulePath 0 (own (codes "F"))) (functorText 0 nothingWanted (valueSig bool)))
+      (withModule (codes "F") (functorOf 0 (valueSig int) emptyModule) noItems))
       ≡ mismatchAt (Some (codes "x")) 1
   -- 16: types at 32 and one past, signatures at 128 and one past
   pub typeFits : refusal (moreItems noItems (codes "t") (typeItem (tower 31))) ≡ None

@@ -1,8 +1,5 @@
 -- Sample projects over mini-ML, and what the rules say of them. Places are 0 here: no rule looks at them.
-use mathlib.Core.Path.{_≡_}
 use mathlib.Core.Bool.{true}
-use mathlib.Core.List.{[], _∷_}
-use Prim.Native.Nat.{ℕ}
 use lib.Chars.{codes}
 use Rattle.types.specs.Types.{Name, unit, ModulePath, at, dot, Ty, label0}
 use Rattle.cores.specs.MiniMl.{mlRule}
@@ -16,8 +13,8 @@ use Rattle.rules.specs.Projects.{Units, noUnits, moreUnits, Loads, DerivedFor}
 abbrev pub one : Term
 one = integer 0
 
-abbrev pub yes′ : Term
-yes′ = operation 0 3 noTerms
+abbrev pub trueTerm : Term
+trueTerm = operation 0 3 noTerms
 
 abbrev pub add : Term → Term → Term
 add t u = operation 0 4 (moreTerms t (moreTerms u noTerms))
@@ -58,7 +55,7 @@ abbrev pub sum : Items → Items
 sum = withLet (codes "y") (add (valueX (own (codes "A"))) one)
 
 abbrev pub choice : Items → Items
-choice = withLet (codes "y") (choose yes′ (valueX (own (codes "A"))) (valueX (own (codes "B"))))
+choice = withLet (codes "y") (choose trueTerm (valueX (own (codes "A"))) (valueX (own (codes "B"))))
 
 -- the empty structure, and a functor applied to it
 abbrev pub emptyModule : Module
@@ -116,7 +113,7 @@ pub record Samples : Type 0 where
   pub notBool : fitsAlone (withLet (codes "x") one noItems) (wantsX (label0 1)) → ⊥
   -- an abstract type is not int; without the signature it is
   pub sealed : Derivable (alone (sum (withModule (codes "A") M noItems))) → ⊥
-  pub open′ : Derivable (alone (sum (withModule (codes "A") transparent noItems)))
+  pub unsealed : Derivable (alone (sum (withModule (codes "A") transparent noItems)))
   -- an alias keeps its type equal
   pub alias : Derivable (alone (choice (withModule (codes "B") (modulePath 0 (own (codes "A"))) (withModule (codes "A") M noItems))))
   -- a functor applied twice makes two types

@@ -2,13 +2,14 @@
 use mathlib.Core.Bool.{Bool, true, _&&_}
 use mathlib.Core.Path.{_≡_}
 use mathlib.Core.Logic.{_⊎_}
-use Prim.Native.Nat.{ℕ, zero, suc, _+_, _≤_}
+use Prim.Native.Nat.{ℕ, suc, _+_, _≤_}
 use lib.Dec.{leb}
 use Rattle.std.specs.declared.option.Option.{Option}
 use Rattle.std.specs.declared.option.Option.the-variants.{Some, None}
 use Rattle.types.specs.Types.{Name, Head, ModulePath, at, dot, Leaf, named, numbered, Ty, leaf, size, replace}
 use Rattle.rules.specs.Signatures.{Sort, aType, aModule, Signature, structure, functor, Components, empty, more, Declaration, abstract, defined, value, nested, find}
-use Rattle.rules.specs.Lookup.{Env}
+use mathlib.Core.List.{List, [], _∷_}
+use Rattle.rules.specs.Lookup.{Env, Normal}
 use Rattle.rules.specs.Checker.{lookup}
 
 -- components at every depth, functor parameters and the sizes of types
@@ -89,3 +90,8 @@ pub record Laid (from : Head → ℕ) (Γ : Env) (k : ℕ) : Type 0 where
   pub apart :
       (h i : Head) (s t : Signature) → Γ h ≡ Some s → Γ i ≡ Some t →
       (h ≡ i) ⊎ ((from h + signatureSize s ≤ from i) ⊎ (from i + signatureSize t ≤ from h))
+
+-- each type is its own normal form
+pub data AllNormal (Γ : Env) : List Ty → Type 0 where
+  noneNormal : AllNormal Γ []
+  moreNormal : {n : Ty} {ns : List Ty} → Normal Γ n n → AllNormal Γ ns → AllNormal Γ (n ∷ ns)

@@ -1,7 +1,6 @@
 -- Sound signatures: every path leads to the sort wanted, and each sort and name is declared once.
 use mathlib.Core.Path.{_≡_}
-use Rattle.std.specs.declared.option.Option.{Option}
-use Rattle.std.specs.declared.option.Option.the-variants.{Some, None}
+use Rattle.std.specs.declared.option.Option.the-variants.{None}
 use Rattle.types.specs.Types.{named, numbered, Ty, leaf, label0, label1, label2}
 use Rattle.rules.specs.Signatures.{aType, sortOf, Signature, structure, functor, Components, empty, more, Declaration, abstract, defined, value, nested, find}
 use Rattle.rules.specs.Lookup.{Env, extend, Has}

@@ -1,10 +1,10 @@
 -- What holds of the rules, over every core whose rule keeps the law of cores.
 use mathlib.Core.Path.{_≡_}
 use mathlib.Core.Bool.{Bool, true, false}
-use mathlib.Core.List.{List}
+use mathlib.Core.List.{List, map}
 use mathlib.Core.Logic.{_↔_}
 use Rattle.types.specs.Types.{Head, ModulePath, Ty}
-use Rattle.cores.specs.Meaning.{Outcome}
+use Rattle.cores.specs.Meaning.{Outcome, gives}
 use Rattle.cores.specs.declared.interface.Operation.{Operation}
 use Rattle.rules.specs.Signatures.{Signature}
 use Rattle.rules.specs.Lookup.{Env, At, Normal}
@@ -19,6 +19,7 @@ use Rattle.rules.specs.Projects.{Units, Loads, DerivedFor, Own, FitsUnit}
 use Rattle.std.specs.declared.result.Result.the-variants.{Ok, Err}
 use Rattle.rules.specs.Checker.{normalize, check, checkUnits, fits}
 use Rattle.rules.specs.Failures.{Tidy, FirstFailure}
+use Rattle.rules.specs.Sizes.{inNumbers, Laid, AllNormal}
 use Rattle.rules.specs.Refusals.{Question, ModuleAsks, No}
 use Prim.Native.Nat.{ℕ}
 use Rattle.rules.specs.Faults.{Mismatch, mismatch, Fault, runModule, Known, runUnits, runUnit, runFit, isAccepted, isSize, isUnitSize}
@@ -117,11 +118,18 @@ NoMismatchMatches =
 -- a fault tells a question that the text asks and that is answered no
 abbrev pub RefusalsMean : {C : Type 0} → (Operation → List Ty → Outcome C) → Type 0
 RefusalsMean {C} rule =
-    (from : Head → ℕ) (Γ : Env) (k : ℕ) (m : Module) (f : Fault C) → Tidy Γ → runModule rule from Γ k m ≡ Err f →
+    (from : Head → ℕ) (Γ : Env) (k : ℕ) (m : Module) (f : Fault C) → Tidy Γ → Laid from Γ k → runModule rule from Γ k m ≡ Err f →
     (q : Question) × ModuleAsks rule from Γ k m q × No rule q f
 
--- what accepted units make known is in normal form, and so is the signature of the next accepted unit
+-- what accepted units make known is in normal form and stands apart in the row, and the signature of the next accepted unit is in normal form
 abbrev pub KnownIsTidy : {C : Type 0} → (Operation → List Ty → Outcome C) → Type 0
 KnownIsTidy rule =
     (us : Units) (w : Known) → runUnits rule us ≡ Ok w →
-    Tidy (w .signatures) × ((u : CompilationUnit) (g : Signature) → runUnit rule w u ≡ Ok g → normalize (w .signatures) g ≡ Some g)
+    Tidy (w .signatures) × Laid (w .stand) (w .signatures) (w .length) ×
+    ((u : CompilationUnit) (g : Signature) → runUnit rule w u ≡ Ok g → normalize (w .signatures) g ≡ Some g)
+
+-- a rule takes normal forms exactly when it takes them with numbers for abstract types, and gives the same with numbers
+abbrev pub NumbersExact : {C : Type 0} → (Operation → List Ty → Outcome C) → Type 0
+NumbersExact rule =
+    (from : Head → ℕ) (Γ : Env) (k : ℕ) → Laid from Γ k → (o : Operation) (ns : List Ty) → AllNormal Γ ns → (t : Ty) →
+    (rule o (map (inNumbers from Γ) ns) ≡ gives t) ↔ ((u : Ty) × (rule o ns ≡ gives u) × (inNumbers from Γ u ≡ t))

@@ -1,7 +1,7 @@
 -- Substitution: heads of paths replaced by module paths. Renaming, reading a signature's own components as those of a path,
 -- and putting an argument for a parameter are all substitutions.
-use Prim.Native.Nat.{ℕ, zero, suc}
-use Rattle.types.specs.Types.{Head, unit, binder, ModulePath, at, dot, Leaf, named, numbered, Ty, leaf, label0, label1, label2}
+use Prim.Native.Nat.{zero, suc}
+use Rattle.types.specs.Types.{Head, unit, binder, ModulePath, at, dot, named, numbered, Ty, leaf, label0, label1, label2}
 use Rattle.rules.specs.Signatures.{Signature, structure, functor, Components, empty, more, Declaration, abstract, defined, value, nested}
 
 -- a module path for each head

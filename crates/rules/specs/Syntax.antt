@@ -1,5 +1,4 @@
 -- Texts after their heads are found and their brackets dropped. Each node has the place of its first byte, which no rule looks at.
-use mathlib.Core.List.{List}
 use Prim.Native.Nat.{ℕ}
 use Rattle.types.specs.Types.{Name, ModulePath, named, Ty, leaf, label0, label1, label2}
 use Rattle.rules.specs.Signatures.{Signature, structure, functor, Components, empty, more, Declaration, abstract, defined, value, nested}

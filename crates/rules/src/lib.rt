@@ -1,6 +1,6 @@
 // The rules of the module language over any core, and what holds of them.
 // Nothing is computed here: each function carries a theorem about the definitions in specs/, and takes constant time.
-ghost use Rattle.rules.specs.Statements.{NormalFormsExist, MatchingReflexive, MatchingTransitive, StrengtheningExact, DerivedIsSound, OneSignature, SixthRuleLast, LoadsAlike, DerivedExactly, OwnIsOne, OwnIsLeast, CheckDecides, FitDecides, CheckedIsOwn, RunDecides, RunFitDecides, MismatchIsFirst, NoMismatchMatches, RefusalsMean, KnownIsTidy};
+ghost use Rattle.rules.specs.Statements.{NormalFormsExist, MatchingReflexive, MatchingTransitive, StrengtheningExact, DerivedIsSound, OneSignature, SixthRuleLast, LoadsAlike, DerivedExactly, OwnIsOne, OwnIsLeast, CheckDecides, FitDecides, CheckedIsOwn, RunDecides, RunFitDecides, MismatchIsFirst, NoMismatchMatches, RefusalsMean, KnownIsTidy, NumbersExact};
 ghost use Rattle.rules.specs.Samples.{Samples};
 ghost use Rattle.rules.specs.Errors.{ErrorsCaught};
 ghost use Rattle.rules.specs.Runs.{FaultRuns};
@@ -141,9 +141,16 @@ pub fn refusals_mean<C: Core>(_core: &C) -> u8
     0
 }
 
-// What accepted units make known is in normal form.
+// What accepted units make known is in normal form, and stands apart in the row.
 pub fn known_is_tidy<C: Core>(_core: &C) -> u8
     ensures { λ _. ⌜ KnownIsTidy (C·Core .rule) ⌝ }
+{
+    0
+}
+
+// A rule takes normal forms exactly when it takes them with numbers for abstract types.
+pub fn numbers_exact<C: Core>(_core: &C) -> u8
+    ensures { λ _. ⌜ NumbersExact (C·Core .rule) ⌝ }
 {
     0
 }

@@ -1,0 +1,13 @@
+pub mod Digits
+pub mod Laid
+pub mod Order
+pub mod Lawful
+pub mod Seats
+pub mod Changes
+pub mod Coding
+pub mod Places
+pub mod Holding
+pub mod Done
+pub mod Reading
+pub mod Spelling
+pub mod Members
