@@ -1,7 +1,8 @@
 -- What put and remove leave and answer, step by step.
 use mathlib.Core.Path.{_≡_, refl, sym, ap, subst, _∙_}
-use mathlib.Core.Bool.{Bool, true, false, cond, _&&_}
+use mathlib.Core.Bool.{Bool, true, false, cond, _&&_, _||_}
 use mathlib.Core.List.{List, [], _∷_, _++_}
+use mathlib.Core.Logic.{⊎-elim}
 use Prim.Native.Nat.{ℕ, zero, suc, _+_, _-_, _^_, _<_, _≤_}
 use native.Mathlib.Omega.{arith}
 use lib.Dec.{eqb, leb, ltb}
@@ -12,7 +13,7 @@ use Rattle.std.specs.declared.result.Result.the-variants.{Ok, Err}
 use Rattle.std.specs.shelf.Digits.{Under}
 use Rattle.std.proofs.shelf.Digits.{number-lt}
 use Rattle.std.proofs.shelf.Lists.{length-append, length-replicate, length-take-le, length-drop}
-use Rattle.std.proofs.shelf.Tests.{and-parts, and-from, eqb-true, leb-true, ltb-true, le-leb, lt-ltb, eq-eqb, cond-true, cond-false}
+use Rattle.std.proofs.shelf.Tests.{and-parts, and-from, eqb-true, leb-true, ltb-true, le-leb, lt-ltb, le-ltb, or-left, cases-lt, eq-eqb, cond-true, cond-false}
 use Rattle.store.specs.declared.entry.Entry.{Entry}
 use Rattle.store.specs.declared.units.Refusal.{Refusal}
 use Rattle.store.specs.declared.units.Refusal.the-variants.{StoreLength, TextLength, NoName, Full, Missing}
@@ -21,10 +22,11 @@ use Rattle.store.specs.Names.{is-name, no-zero}
 use Rattle.store.specs.Entries.{blank, sound, lawful, seat, fits, entered, vacated}
 use Rattle.store.specs.Layout.{encode, decode, stored, written}
 use Rattle.store.specs.Units.{slot, units, put-in, taken-out}
-use Rattle.store.specs.Calls.{has-name, number-in, name-in, record-for, unit-for, put-answer, with-unit, put-store, remove-answer, last-text, without-unit, remove-store}
+use Rattle.store.specs.Calls.{has-name, number-in, room, name-in, record-for, unit-for, put-answer, with-unit, put-store, remove-answer, last-text, without-unit, remove-store}
 use Rattle.store.proofs.Order.{under-from}
 use Rattle.store.proofs.Laid.{length-laid}
 use Rattle.store.proofs.Lawful.{lawful-parts}
+use Rattle.store.proofs.Seats.{seat-le}
 use Rattle.store.proofs.Holding.{put-units, remove-units, lawful-stored, span-at}
 
 -- the number of a name in a text is told only where a name stands there
@@ -89,12 +91,24 @@ sound-for text place size rank n h short r small =
 yeses : {X : Type 0} (a b c : Bool) (x n t s : X) → a ≡ true → b ≡ true → c ≡ true → cond a (cond b (cond c x n) t) s ≡ x
 yeses a b c x n t s ha hb hc = cond-true a (cond b (cond c x n) t) s ha ∙ cond-true b (cond c x n) t hb ∙ cond-true c x n hc
 
+-- there is room where the place is below 16
+room-is : (n : ℕ) (es : List Entry) → length es ≤ 16 → room n es ≡ ltb (seat n es) 16
+room-is n es h =
+    let le = seat-le n es in
+    ⊎-elim {C = room n es ≡ ltb (seat n es) 16}
+    (λ few. or-left (ltb (length es) 16) (ltb (seat n es) (length es)) (lt-ltb (length es) 16 few) ∙ sym (lt-ltb (seat n es) 16 (omega arith)))
+    (λ full.
+    let all : length es ≡ 16 = omega arith in
+    ap (λ b. b || ltb (seat n es) (length es)) (le-ltb (length es) 16 full) ∙ ap (ltb (seat n es)) all)
+    (cases-lt (length es) 16)
+
 last-question : (s text : List ℕ) (place size : ℕ) → length s ≡ 65536 → length text ≤ 4000 → has-name text place size ≡ true →
     put-answer s text place size ≡ cond (ltb (seat (number-in text place size) (stored s)) 16) (Ok (seat (number-in text place size) (stored s))) (Err Full)
 last-question s text place size long short named =
     yeses (eqb (length s) 65536) (leb (length text) 4000) (has-name text place size)
-    (cond (ltb (seat (number-in text place size) (stored s)) 16) (Ok (seat (number-in text place size) (stored s))) (Err Full)) (Err NoName) (Err TextLength) (Err StoreLength)
+    (cond (room (number-in text place size) (stored s)) (Ok (seat (number-in text place size) (stored s))) (Err Full)) (Err NoName) (Err TextLength) (Err StoreLength)
     (eq-eqb (length s) 65536 long) (le-leb (length text) 4000 short) named
+    ∙ ap (λ b. cond b (Ok (seat (number-in text place size) (stored s))) (Err Full)) (room-is (number-in text place size) (stored s) (lawful-parts (stored s) (lawful-stored s) .0))
 
 -- 16 other units are stored
 pub put-full : (s text : List ℕ) (place size rank n : ℕ) → length s ≡ 65536 → length text ≤ 4000 → has-name text place size ≡ true → n ≡ number-in text place size →

@@ -1,5 +1,5 @@
 -- What the calls that change a store answer and leave.
-use mathlib.Core.Bool.{Bool, cond, _&&_}
+use mathlib.Core.Bool.{Bool, cond, _&&_, _||_}
 use mathlib.Core.List.{List}
 use Prim.Native.Nat.{ℕ, _+_, _-_}
 use lib.Dec.{eqb, leb, ltb}
@@ -38,6 +38,10 @@ record-for text place size rank = record { name = number-in text place size; siz
 abbrev pub unit-for : List ℕ → ℕ → ℕ → ℕ → StoredUnit
 unit-for text place size rank = unit-of (record-for text place size rank) text
 
+-- fewer than 16 units are stored, or one of this name
+abbrev pub room : ℕ → List Entry → Bool
+room n es = ltb (length es) 16 || ltb (seat n es) (length es)
+
 -- put answers the place of the unit among the stored ones, or the first that is wrong: the store's length, the text's
 -- length, the name, and last that 16 other units are stored
 abbrev pub put-answer : List ℕ → List ℕ → ℕ → ℕ → Result ℕ Refusal
@@ -45,7 +49,7 @@ put-answer s text place size =
     cond (eqb (length s) 65536)
     (cond (leb (length text) 4000)
     (cond (has-name text place size)
-    (cond (ltb (seat (number-in text place size) (stored s)) 16) (Ok (seat (number-in text place size) (stored s))) (Err Full))
+    (cond (room (number-in text place size) (stored s)) (Ok (seat (number-in text place size) (stored s))) (Err Full))
     (Err NoName))
     (Err TextLength))
     (Err StoreLength)
