@@ -1,0 +1,17 @@
+pub mod Numbered
+pub mod Meanings
+pub mod Copying
+pub mod Scope
+pub mod Comparing
+pub mod Faults
+pub mod Texts
+pub mod Terms
+pub mod Modules
+pub mod Units
+pub mod Failing
+pub mod Standing
+pub mod Written
+pub mod Statements
+pub mod SampleTexts
+pub mod Samples
+pub mod Limits

@@ -1,0 +1,37 @@
+// The classes of tokens that the grammar tells apart.
+
+// One variant for each mark and keyword, then names, integers and core words by their number of parts or arguments.
+#[derive(Clone, Copy)]
+pub enum Class {
+    Open,
+    Close,
+    Colon,
+    Equals,
+    Comma,
+    Dot,
+    Arrow,
+    OpenAttribute,
+    CloseAttribute,
+    Module,
+    Struct,
+    Sig,
+    End,
+    Functor,
+    Type,
+    Val,
+    Let,
+    Fun,
+    Rank,
+    Lower,
+    Upper,
+    SmallInteger,
+    LargeInteger,
+    Label0,
+    Label1,
+    Label2,
+    Operator0,
+    Operator1,
+    Operator2,
+    Operator3,
+    TextEnd,
+}
