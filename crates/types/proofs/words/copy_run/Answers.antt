@@ -11,5 +11,5 @@ returns c =
     let k : (n + length ws) - n ≡ length ws = omega arith in
     record {
       end = sym (copied_end_where ws n (length out) h);
-      after = put_mid_pasted ws c.copy-from-slice.new.self n ((n + length ws) - n) out c.copy-from-slice.ensures.after k ∙ sym (copied_where ws n out h);
+      after = put_mid_pasted ws c.copy_from_slice.new.self n ((n + length ws) - n) out c.copy_from_slice.ensures.after k ∙ sym (copied_where ws n out h);
     }
