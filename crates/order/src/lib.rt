@@ -1,6 +1,8 @@
 //! The load order of units: of the units whose named units are all placed, the next is the one of least rank,
 //! then of least name.
 
+#![tactic(auto)]
+
 mod check;
 mod compare;
 mod marks;

@@ -4,12 +4,12 @@ use Rattle.order.specs.Seen.{bit, seen}
 use Rattle.order.proofs.Turns.{Turns, turns_more, turns_stop, none_picked, all_picked, picked_none, picked_some}
 use Rattle.order.proofs.in_turn.Goals as goal
 
-pub returns-in-default : goal.returns-in-default
-returns-in-default c =
+pub returns-in_default : goal.returns-in_default
+returns-in_default c =
     let u = seen c.args.units.now in
     let placed = bit c.loop-count.placed in
     turns_stop u c.loop-count.count c.loop-count.places placed c.requires (omega arith) c.loop-count.invariant
-    (none_picked u (u.count - c.loop-count.count) placed (picked_none u (next u placed) c.in-default.ensures.value))
+    (none_picked u (u.count - c.loop-count.count) placed (picked_none u (next u placed) c.in_default.ensures.value))
 
 pub loop-count-preserved : goal.loop-count-preserved
 loop-count-preserved c =

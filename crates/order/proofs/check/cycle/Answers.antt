@@ -14,7 +14,7 @@ loop-i-preserved c =
     let row = c.reached-rows.ensures i i c.loop-i-test.true c.loop-i-test.true in
     elim c.if-has.branch [
       | then-has w ↦
-          w.least-is ∙ w.lesser-named-least.ensures ∙ ap (kept (by_name u) true i) c.loop-i.invariant
+          w.least-is ∙ w.lesser_named-least.ensures ∙ ap (kept (by_name u) true i) c.loop-i.invariant
           ∙ best_keeps (cyclic u) (by_name u) i (sym row ∙ sym w.if-has.ensures)
       | else-has w ↦
           w.least-is ∙ c.loop-i.invariant ∙ best_skips (cyclic u) (by_name u) i (sym row ∙ sym w.if-has.ensures)

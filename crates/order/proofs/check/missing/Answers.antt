@@ -12,7 +12,7 @@ loop-i-preserved c =
     let i = c.loop-i.i in
     elim c.if-lacks.branch [
       | then-lacks w ↦
-          w.least-is ∙ w.lesser-named-least.ensures ∙ ap (kept (by_name u) true i) c.loop-i.invariant
+          w.least-is ∙ w.lesser_named-least.ensures ∙ ap (kept (by_name u) true i) c.loop-i.invariant
           ∙ best_keeps u.lacks (by_name u) i (sym w.if-lacks.ensures)
       | else-lacks w ↦
           w.least-is ∙ c.loop-i.invariant ∙ best_skips u.lacks (by_name u) i (sym w.if-lacks.ensures)

@@ -7,7 +7,7 @@ use Rattle.order.specs.Seen.{bit, seen}
 use Rattle.order.proofs.Existence.{picked_all}
 use Rattle.order.proofs.LeastOf.{best_skips, best_keeps, lesser_kept}
 use Rattle.order.proofs.picking.pick.Goals as goal
-use Rattle.order.proofs.picking.pick.Goals.{then_ready, else-ready}
+use Rattle.order.proofs.picking.pick.Goals.{then-ready, else-ready}
 
 pub loop-i-preserved : goal.loop-i-preserved
 loop-i-preserved c =
@@ -15,7 +15,7 @@ loop-i-preserved c =
     let mark = ready u (bit c.args.placed) in
     let i = c.loop-i.i in
     elim c.if-ready.branch [
-      | then_ready w ↦
+      | then-ready w ↦
           w.least-is ∙ w.lesser-least.ensures ∙ ap (λ o. lesser_tuple u o (tuple u i)) c.loop-i.invariant
           ∙ lesser_kept u i (best mark (earlier u) i)
           ∙ ap (option_map (tuple u)) (best_keeps mark (earlier u) i (sym {b = mark i} w.if-ready.ensures.value))
