@@ -1,4 +1,6 @@
 // Many small texts through the lexer. All of this crate is tests.
+#![tactic(auto)]
+
 #[cfg(test)]
 mod tests {
     use tokens::count::count_tokens;
