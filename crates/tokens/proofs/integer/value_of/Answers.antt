@@ -12,11 +12,11 @@ pub returns-then-not-takes : goal.returns-then-not-takes
 returns-then-not-takes c =
     λ digits. false≢true (c.if-not-takes.ensures ∙ all_at is_digit c.args.bytes.now c.loop-b.b-index digits.0 (omega arith))
 
-pub overflow-mul-value : goal.overflow-mul-value
-overflow-mul-value c = omega (arith, below_power c.loop-b.value c.loop-b.b-index 8 c.loop-b.invariant.2 (omega arith))
+pub overflow_mul-value : goal.overflow_mul-value
+overflow_mul-value c = omega (arith, below_power c.loop-b.value c.loop-b.b-index 8 c.loop-b.invariant.2 (omega arith))
 
-pub overflow-add-value : goal.overflow-add-value
-overflow-add-value c =
+pub overflow_add-value : goal.overflow_add-value
+overflow_add-value c =
     let digit = digit_small (get_or c.args.bytes.now c.loop-b.b-index 0) (sym c.if-not-takes.ensures) in
     omega (arith, below_power c.loop-b.value c.loop-b.b-index 8 c.loop-b.invariant.2 (omega arith), digit.1, c.from.ensures)
 
@@ -37,7 +37,7 @@ returns c =
     let bs = c.args.bytes.now in
     let i = c.loop-b.b-index in
     let all = take_all i bs (omega arith) in
-    let some = false-eqb (length bs) 0 c.if-is-empty.ensures in (
+    let some = false-eqb (length bs) 0 c.if-is_empty.ensures in (
       (subst (All is_digit) all c.loop-b.invariant.0, omega arith, omega arith),
       c.loop-b.invariant.1 ∙ ap decimal all,
       below_power c.loop-b.value i 9 c.loop-b.invariant.2 (omega arith),

@@ -7,7 +7,7 @@ use Rattle.tokens.proofs.lexer.behind_arrow.Goals as goal
 pub returns-in-45 : goal.returns-in-45
 returns-in-45 c = (grind (arith, nat_tests), between_to_end c.args.bytes.now 2 _ (omega arith))
 
-pub returns-in-default : goal.returns-in-default
-returns-in-default c =
+pub returns-in_default : goal.returns-in_default
+returns-in_default c =
     let past = get_or_past c.args.bytes.now 1 0 in
     grind (arith, nat_tests)

@@ -7,7 +7,7 @@ use Rattle.tokens.proofs.lexer.behind_attribute.Goals as goal
 pub returns-in-91 : goal.returns-in-91
 returns-in-91 c = (grind (arith, nat_tests), between_to_end c.args.bytes.now 3 _ (omega arith))
 
-pub returns-in-default : goal.returns-in-default
-returns-in-default c =
+pub returns-in_default : goal.returns-in_default
+returns-in_default c =
     let past = get_or_past c.args.bytes.now 2 0 in
     grind (arith, nat_tests)

@@ -4,10 +4,10 @@ use Rattle.tokens.proofs.lexer.name_at.Goals as goal
 
 pub returns-in-Some : goal.returns-in-Some
 returns-in-Some c =
-    keyword_front c.args.bytes.now c.split-at.result.0.now c.split-at.result.1.now c.length-n.result c.in-Some.k
+    keyword_front c.args.bytes.now c.split_at.result.0.now c.split_at.result.1.now c.length-n.result c.in-Some.k
     c.length-n.ensures.value
     c.length-n.ensures.bound
     (omega arith)
-    c.split-at.ensures.front
-    c.split-at.ensures.back
+    c.split_at.ensures.front
+    c.split_at.ensures.back
     (sym c.in-Some.ensures)
