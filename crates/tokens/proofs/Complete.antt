@@ -1,20 +1,19 @@
 -- Whatever piece stands at the front of a text, the lexer's definition finds it; so a text divides in one way only.
-use Rattle.std.proofs.Common.{◌≡◌, ℕ, suc, ◌+◌, ◌<◌, ◌≤◌, Bool, true, false, cond, ◌&&◌, List, [], ◌∷◌, ◌++◌, length, get_or, take, drop, Some, None, codes, Option, sym, refl, ap, ◌∙◌, subst, true≢false, arith, lit≤, le-leb}
+use Rattle.std.proofs.Common.{◌≡◌, ℕ, ◌≤◌, Bool, true, false, cond, ◌&&◌, List, [], ◌∷◌, ◌++◌, length, get_or, Some, None, codes, Option, sym, refl, ap, ◌∙◌, true≢false, arith, lit≤, le-leb}
 use mathlib.Core.Bool.{false≢true}
-use lib.Seq.{take-append_seam, drop-append_seam}
+use lib.Seq.{take-append_seam}
 use Rattle.std.proofs.lemmas.Bool.Decides.{nat_tests}
-use Rattle.std.specs.List.{prefix_len}
-use Rattle.tokens.specs.Bytes.{is_blank, is_lower, is_upper, is_letter, is_digit, is_name_byte}
+use Rattle.tokens.specs.Bytes.{is_lower, is_upper, is_letter, is_digit, is_name_byte}
 use Rattle.tokens.specs.Keywords.{keyword_bytes, keyword_of, mark_bytes}
-use Rattle.tokens.specs.Lexer.{Front, piece, none, word, name_front, integer_front, token_front, front}
-use Rattle.tokens.specs.Pieces.{Piece, blank, mark, keyword, lower, upper, integer, written, All, Name, LowerName, NoKeyword, Proper, longer, Stops, Begins, Cuts, BeginsNone}
+use Rattle.tokens.specs.Lexer.{piece, word, name_front, integer_front, token_front}
+use Rattle.tokens.specs.Pieces.{Piece, blank, mark, keyword, lower, upper, integer, written, All, Name, LowerName, NoKeyword, Proper, longer, Stops}
 use Rattle.tokens.specs.declared.token.Keyword.{Keyword}
 use Rattle.tokens.specs.declared.token.Keyword.TheVariants.{Module, Struct, Sig, End, Functor, «Type», Val, Let, Fun, Rank}
 use Rattle.tokens.specs.declared.token.Mark.{Mark}
 use Rattle.tokens.specs.declared.token.Mark.TheVariants.{Open, Close, Colon, Equals, Comma, Dot, Arrow, OpenAttribute, CloseAttribute}
 use Rattle.tokens.proofs.Fronts.{chosen}
 use Rattle.tokens.proofs.Runs.{Ends, run_is}
-use Rattle.tokens.proofs.Sound.{letter_goes_on, token_stands}
+use Rattle.tokens.proofs.Sound.{letter_goes_on}
 use Rattle.tokens.proofs.Words.{keyword_spells, keyword_told}
 
 -- a run of name bytes from a letter is found as its word

@@ -1,13 +1,13 @@
 -- Which token stands at the front, by the class of the first byte; and the next token behind blanks.
-use Rattle.std.proofs.Common.{◌≡◌, ℕ, suc, ◌+◌, ◌<◌, ◌≤◌, Bool, true, false, cond, leb, ◌⊎◌, List, [], ◌∷◌, length, get_or, take, drop, Some, None, sym, refl, ap, ◌∙◌, subst, add-zero, one-add, arith, length-take-le, le-leb}
+use Rattle.std.proofs.Common.{◌≡◌, ℕ, suc, ◌+◌, ◌<◌, ◌≤◌, Bool, true, false, cond, ◌⊎◌, List, [], ◌∷◌, length, get_or, take, drop, Some, sym, refl, ap, ◌∙◌, add-zero, one-add, arith, length-take-le, le-leb}
 use Rattle.std.proofs.lemmas.Bool.Decides.{nat_tests}
 use Rattle.std.specs.List.{prefix_len}
 use Rattle.tokens.specs.Bytes.{class, is_blank, is_letter, is_digit, is_name_byte}
 use Rattle.tokens.specs.Keywords.{keyword_bytes, keyword_of}
-use Rattle.tokens.specs.Lexer.{Front, piece, none, word, mark_of, mark_front, name_front, integer_front, token_front, found, next_from, at_end}
+use Rattle.tokens.specs.Lexer.{piece, none, mark_of, mark_front, name_front, integer_front, token_front, found, next_from, at_end}
 use Rattle.tokens.specs.Pieces.{keyword}
-use Rattle.tokens.specs.declared.bytes.Class.TheVariants.{Blank, Lower, Upper, Digit, Underscore, Other}
-use Rattle.tokens.specs.declared.lexer.Reason.TheVariants.{Byte, LongName}
+use Rattle.tokens.specs.declared.bytes.Class.TheVariants.{Lower, Upper, Digit}
+use Rattle.tokens.specs.declared.lexer.Reason.TheVariants.{Byte}
 use Rattle.tokens.specs.declared.token.Keyword.{Keyword}
 use Rattle.tokens.proofs.Words.{keyword_spells}
 

@@ -1,5 +1,5 @@
 -- Lemmas about the mark at the front of a text.
-use Rattle.std.proofs.Common.{◌≡◌, ℕ, List, length, get_or, Some, None, arith}
+use Rattle.std.proofs.Common.{◌≡◌, ℕ, List, length, get_or, Some, arith}
 use Rattle.std.proofs.lemmas.Bool.Decides.{nat_tests}
 use Rattle.tokens.specs.Keywords.{mark_bytes}
 use Rattle.tokens.specs.Lexer.{single_mark, mark_of}

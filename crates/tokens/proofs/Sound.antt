@@ -1,14 +1,14 @@
 -- What the lexer's definition finds at the front of a text stands there, as long as it can be.
-use Rattle.std.proofs.Common.{◌≡◌, ℕ, suc, ◌+◌, ◌<◌, ◌≤◌, Bool, true, false, cond, leb, ◌⊎◌, List, [], ◌∷◌, ◌++◌, length, get_or, take, drop, Some, None, Option, sym, refl, ap, ◌∙◌, subst, inl, inr, one-add, arith, take-append-drop, length-take-le, leb-true}
+use Rattle.std.proofs.Common.{◌≡◌, ℕ, suc, ◌≤◌, Bool, true, false, cond, leb, List, [], ◌∷◌, ◌++◌, length, get_or, take, drop, Some, None, Option, sym, refl, ap, ◌∙◌, subst, one-add, arith, take-append-drop, length-take-le, leb-true}
 use mathlib.Core.Bool.{false≢true}
 use Rattle.std.proofs.lemmas.List.Sums.{prefix_len-le-length}
 use Rattle.std.proofs.lemmas.Bool.Decides.{nat_tests}
 use Rattle.std.specs.List.{prefix_len}
-use Rattle.tokens.specs.Bytes.{is_blank, is_lower, is_upper, is_letter, is_digit, is_name_byte}
-use Rattle.tokens.specs.Keywords.{keyword_bytes, keyword_of, mark_bytes}
+use Rattle.tokens.specs.Bytes.{is_lower, is_letter, is_digit, is_name_byte}
+use Rattle.tokens.specs.Keywords.{keyword_of, mark_bytes}
 use Rattle.tokens.specs.Lexer.{Front, piece, none, word, single_mark, is_attribute, is_arrow, mark_of, mark_front, name_front, integer_front, token_front}
-use Rattle.tokens.specs.Pieces.{Piece, blank, mark, keyword, lower, upper, integer, written, All, Name, Proper, Stops, Begins}
-use Rattle.tokens.specs.declared.lexer.Reason.TheVariants.{Byte, LongName, LongInteger}
+use Rattle.tokens.specs.Pieces.{Piece, mark, lower, upper, integer, written, All, Proper, Stops, Begins}
+use Rattle.tokens.specs.declared.lexer.Reason.TheVariants.{LongName, LongInteger}
 use Rattle.tokens.specs.declared.token.Keyword.{Keyword}
 use Rattle.tokens.specs.declared.token.Mark.{Mark}
 use Rattle.tokens.specs.declared.token.Mark.TheVariants.{OpenAttribute, Arrow}

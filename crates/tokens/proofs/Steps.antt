@@ -1,8 +1,8 @@
 -- What the lexer knows of the places as it goes from one token to the next.
-use Rattle.std.proofs.Common.{◌≡◌, ℕ, ◌+◌, ◌-◌, ◌<◌, ◌≤◌, List, [], ◌∷◌, ◌++◌, length, drop, sym, refl, ap, ◌∙◌, subst, arith, length-append, length-drop}
+use Rattle.std.proofs.Common.{◌≡◌, ℕ, ◌+◌, ◌<◌, List, ◌++◌, length, drop, sym, refl, ap, ◌∙◌, arith, length-append, length-drop}
 use Rattle.std.specs.List.{prefix_len}
 use Rattle.tokens.specs.Bytes.{is_blank}
-use Rattle.tokens.specs.Lexer.{piece, token_front, found, next_token, next_from, at_end}
+use Rattle.tokens.specs.Lexer.{piece, token_front, found, next_token, at_end}
 use Rattle.tokens.specs.Pieces.{Piece, written}
 use Rattle.tokens.proofs.Fronts.{only_blanks, behind_blanks}
 use Rattle.tokens.proofs.Sound.{token_stands}

@@ -1,5 +1,5 @@
 -- What the loop over the tokens of a text knows, from its first turn to its answer.
-use Rattle.std.proofs.Common.{◌≡◌, ℕ, ◌+◌, ◌<◌, ◌≤◌, cond, List, [], ◌∷◌, ◌++◌, length, get_or, drop, sym, ap, ◌∙◌, arith, length-drop}
+use Rattle.std.proofs.Common.{◌≡◌, ℕ, ◌+◌, ◌≤◌, cond, List, [], ◌∷◌, ◌++◌, length, get_or, drop, sym, ap, ◌∙◌, arith, length-drop}
 use Rattle.tokens.specs.Counting.{more, tally, total, Why, DividesOnlyAs, StopsAt}
 use Rattle.tokens.specs.Lexer.{piece, at_end, token, no_token, token_front, next_token}
 use Rattle.tokens.specs.Pieces.{Piece, blank, Cuts}

@@ -1,10 +1,9 @@
 -- A text divides into pieces in at most one way.
-use Rattle.std.proofs.Common.{◌≡◌, ℕ, Bool, true, false, cond, List, [], ◌∷◌, ◌++◌, length, get_or, drop, None, sym, refl, ap, ◌∙◌, subst, true≢false, arith}
-use mathlib.Core.Bool.{false≢true}
+use Rattle.std.proofs.Common.{◌≡◌, ℕ, Bool, true, false, cond, List, [], ◌∷◌, length, get_or, drop, None, sym, refl, ap, ◌∙◌, subst, arith}
 use lib.Seq.{drop-append_seam}
 use Rattle.std.proofs.lemmas.Bool.Decides.{nat_tests}
 use Rattle.tokens.specs.Bytes.{is_blank, is_letter, is_digit}
-use Rattle.tokens.specs.Lexer.{Front, piece, none, mark_of, mark_front, token_front, front}
+use Rattle.tokens.specs.Lexer.{piece, none, mark_of, mark_front, token_front, front}
 use Rattle.tokens.specs.Pieces.{Piece, blank, mark, keyword, lower, upper, integer, written, Begins, Cuts, BeginsNone}
 use Rattle.tokens.specs.declared.lexer.Reason.{Reason}
 use Rattle.tokens.specs.declared.lexer.Reason.TheVariants.{Byte}

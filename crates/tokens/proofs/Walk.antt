@@ -1,15 +1,14 @@
 -- Going through a text from token to token cuts it into pieces.
-use Rattle.std.proofs.Common.{◌≡◌, ℕ, suc, ◌+◌, ◌-◌, ◌<◌, ◌≤◌, Bool, true, false, cond, leb, ◌⊎◌, List, [], ◌∷◌, ◌++◌, length, get_or, take, drop, Some, None, fold, Option, sym, refl, ap, ◌∙◌, subst, inl, inr, ⊎_elim, append_assoc, one-add, arith, lit≤, length-append, length-drop, drop-drop, leb-false}
+use Rattle.std.proofs.Common.{◌≡◌, ℕ, ◌+◌, ◌<◌, ◌≤◌, Bool, true, false, cond, leb, ◌⊎◌, List, [], ◌∷◌, ◌++◌, length, get_or, take, drop, Some, None, fold, Option, sym, refl, ap, ◌∙◌, subst, inl, inr, ⊎_elim, one-add, arith, lit≤, length-append, length-drop, drop-drop, leb-false}
 use mathlib.Core.Bool.{false≢true}
 use Rattle.std.proofs.lemmas.List.{drop_all}
-use Rattle.std.proofs.lemmas.Bool.Decides.{nat_tests}
 use Rattle.std.proofs.str.Laws.{order}
 use Rattle.std.specs.List.{prefix_len}
 use Rattle.tokens.specs.Bytes.{is_blank, is_letter, is_digit, is_name_byte}
 use Rattle.tokens.specs.Keywords.{mark_bytes, keyword_bytes, keyword_of}
 use Rattle.tokens.specs.Counting.{more, tally, nothing, total, Why}
-use Rattle.tokens.specs.Lexer.{Front, Next, piece, none, at_end, token, no_token, found, token_front, front, next_from, next_token, word, name_front, integer_front, mark_front, mark_of}
-use Rattle.tokens.specs.Pieces.{Piece, blank, mark, keyword, lower, upper, integer, written, Proper, Stops, Begins, Cuts}
+use Rattle.tokens.specs.Lexer.{Front, piece, none, at_end, token, no_token, found, token_front, next_token, word, name_front, integer_front, mark_front, mark_of}
+use Rattle.tokens.specs.Pieces.{Piece, blank, mark, keyword, lower, upper, integer, written, Proper, Stops, Cuts}
 use Rattle.tokens.specs.declared.count.Counts.{Counts}
 use Rattle.tokens.specs.declared.lexer.Reason.{Reason}
 use Rattle.tokens.specs.declared.lexer.Reason.TheVariants.{Byte, LongName, LongInteger}

@@ -1,5 +1,5 @@
 -- The classes of bytes, by their numbers.
-use Rattle.std.specs.Prelude.{ℕ, Bool, true, false, cond, ◌&&◌, ◌||◌, ◌==◌, nat_le}
+use Rattle.std.specs.Prelude.{ℕ, Bool, cond, ◌&&◌, ◌||◌, ◌==◌, nat_le}
 use Rattle.tokens.specs.declared.bytes.Class.{Class}
 use Rattle.tokens.specs.declared.bytes.Class.TheVariants.{Blank, Lower, Upper, Digit, Underscore, Other}
 use Rattle.tokens.specs.declared.bytes.Run.{Run}

@@ -1,5 +1,5 @@
 -- What counting the tokens of a text tells of it: its one division into tokens and blanks, or where it has none.
-use Rattle.std.specs.Prelude.{◌≡◌, ℕ, ◌+◌, ◌^◌, ◌<◌, true, false, List, length, drop, Ok, Err, fold, Result, slice_index}
+use Rattle.std.specs.Prelude.{◌≡◌, ℕ, ◌+◌, ◌<◌, true, false, List, length, drop, Ok, Err, fold, Result, slice_index}
 use Rattle.std.specs.List.{prefix_len}
 use Rattle.tokens.specs.Bytes.{is_letter, is_digit, is_name_byte}
 use Rattle.tokens.specs.Pieces.{Piece, blank, mark, keyword, lower, upper, integer, Division, Cuts, BeginsNone}

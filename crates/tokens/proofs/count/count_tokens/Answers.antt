@@ -1,6 +1,5 @@
-use Rattle.std.proofs.Common.{◌≡◌, ◌≤◌, length, Ok, sym, ap, ◌∙◌, subst, arith}
+use Rattle.std.proofs.Common.{◌≡◌, Ok, sym, ap, ◌∙◌, subst, arith}
 use Rattle.std.proofs.lemmas.Result.{err_from_is_err_and}
-use Rattle.tokens.specs.Counting.{Surveyed}
 use Rattle.tokens.specs.Lexer.{view, token, told, next_token}
 use Rattle.tokens.proofs.Survey.{Sofar, room, again, whole, stopped}
 use Rattle.tokens.proofs.Walk.{Advance, advance}

@@ -1,4 +1,4 @@
-use Rattle.std.proofs.Common.{◌≡◌, suc, ◌+◌, ◌-◌, ◌*◌, ◌^◌, ◌<◌, ◌≤◌, true, length, get_or, take, sym, ap, ◌∙◌, subst, add-one, arith, false-eqb}
+use Rattle.std.proofs.Common.{◌+◌, ◌-◌, ◌*◌, length, get_or, take, sym, ap, ◌∙◌, subst, add-one, arith, false-eqb}
 use mathlib.Core.Bool.{false≢true}
 use Rattle.std.proofs.lemmas.List.{take_all}
 use Rattle.std.proofs.lemmas.List.Sums.{fold_more}

@@ -1,4 +1,4 @@
-use Rattle.std.proofs.Common.{◌≡◌, ◌^◌, ◌<◌, length, take}
+use Rattle.std.proofs.Common.{◌≡◌, ◌^◌, ◌<◌, take}
 use Rattle.tokens.specs.Bytes.{is_digit}
 use Rattle.tokens.specs.Integers.{decimal}
 use Rattle.tokens.specs.Pieces.{All}
