@@ -4,7 +4,7 @@ use mathlib.Core.Bool.{false≢true}
 use Rattle.std.proofs.lemmas.Slice.Eq.{bytes_eq-Decides}
 use Rattle.std.specs.Str.{bytes_eq}
 use Rattle.types.specs.Types.{numbered, Ty, leaf, label0, label1, label2, size}
-use Rattle.types.specs.Words.{node, node_word, node_number, types, spell, encode, encode_all, whole, wanting, span, Spelled, AllSpelled}
+use Rattle.types.specs.Words.{node, node_word, node_number, types, spell, encode, encode_all, whole, wanting, span, AllSpelled}
 use Rattle.types.specs.Encoding.{Encoding, FirstType, AreTypes, TellsSame}
 use Rattle.types.specs.declared.words.Node.{Node}
 use Rattle.types.specs.declared.words.Node.TheVariants.{Leaf as LeafNode, Label0, Label1, Label2}

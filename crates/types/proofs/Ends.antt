@@ -1,14 +1,14 @@
 -- The loops that find the end of a type and test for whole types.
-use Rattle.std.proofs.Common.{◌≡◌, ℕ, zero, suc, ◌+◌, ◌-◌, ◌<◌, ◌≤◌, Bool, true, false, cond, leb, List, [], ◌∷◌, ◌++◌, length, get_or, take, drop, Some, None, Option, sym, refl, ap, ◌∙◌, subst, arith, length-append, length-drop, take-append-drop}
+use Rattle.std.proofs.Common.{◌≡◌, ℕ, zero, suc, ◌+◌, ◌-◌, ◌<◌, ◌≤◌, Bool, true, false, cond, leb, List, [], ◌∷◌, ◌++◌, length, get_or, take, drop, Some, None, Option, sym, refl, ap, ◌∙◌, subst, arith, length-drop, take-append-drop}
 use mathlib.Core.Bool.{false≢true}
 use Rattle.std.proofs.lemmas.Bool.Decides.{nat_tests}
 use Rattle.std.proofs.lemmas.List.{drop_more, drop_all, length-take-le}
 use Rattle.std.specs.Option.{option_map}
-use Rattle.types.specs.Types.{Ty, leaf, label0, label1, label2, size}
-use Rattle.types.specs.Words.{node, node_word, grown, types, spell, encode, encode_all, whole, wanting, types_with, span}
+use Rattle.types.specs.Types.{Ty}
+use Rattle.types.specs.Words.{node, node_word, grown, types, encode_all, whole, wanting, types_with, span}
 use Rattle.types.specs.declared.words.Node.{Node}
 use Rattle.types.specs.declared.words.Node.TheVariants.{Leaf as LeafNode, Label0, Label1, Label2}
-use Rattle.types.proofs.Spelling.{node_word_node, whole_is, is_whole, length_spell}
+use Rattle.types.proofs.Spelling.{node_word_node, whole_is, is_whole}
 
 -- what is left gives the answer: i words are passed, and so many types are still wanted
 abbrev pub Ending : List ℕ → ℕ → ℕ → Type 0

@@ -1,5 +1,5 @@
 -- Types: labels with 0, 1 or 2 parts over leaves. A leaf is a path to a type, or a number that stands for such a path.
-use Rattle.std.specs.Prelude.{ℕ, suc, ◌+◌, Bool, true, false, cond, ◌&&◌, List, ◌==◌, nat_lt}
+use Rattle.std.specs.Prelude.{ℕ, suc, ◌+◌, Bool, false, cond, ◌&&◌, List, ◌==◌, nat_lt}
 use Rattle.std.specs.Str.{bytes_eq}
 
 -- a name, by its bytes

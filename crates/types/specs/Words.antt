@@ -1,9 +1,9 @@
 -- Types in memory: a run of 32-bit words, one for each label and leaf, a label before its parts.
 -- The top two bits tell what a word is, the other 30 are the number of the leaf or label.
-use Rattle.std.specs.Prelude.{◌≡◌, ℕ, zero, suc, ◌+◌, ◌-◌, ◌%◌, ◌<◌, Bool, cond, List, [], ◌∷◌, ◌++◌, length, take, drop, Some, None, Option, nat_le, nat_lt}
+use Rattle.std.specs.Prelude.{ℕ, zero, suc, ◌+◌, ◌-◌, ◌%◌, ◌<◌, Bool, cond, List, [], ◌∷◌, ◌++◌, length, take, drop, Some, None, Option, nat_le, nat_lt}
 use Rattle.std.specs.Str.{bytes_eq}
 use Rattle.std.specs.Option.{option_map}
-use Rattle.types.specs.Types.{Leaf, named, numbered, Ty, leaf, label0, label1, label2}
+use Rattle.types.specs.Types.{named, numbered, Ty, leaf, label0, label1, label2}
 use Rattle.types.specs.declared.words.Node.{Node}
 use Rattle.types.specs.declared.words.Node.TheVariants.{Leaf as LeafNode, Label0, Label1, Label2}
 

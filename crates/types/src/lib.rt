@@ -1,4 +1,6 @@
 // Types: their definition, and how they lie in memory as runs of 32-bit words.
+#![tactic(auto)]
+
 pub mod words;
 
 ghost use Rattle.types.specs.Encoding.{Encoding};
