@@ -1,20 +1,18 @@
 -- The laws of the shipped cores, of layers and of the encoding.
-use Rattle.std.proofs.Common.{◌≡◌, ℕ, zero, suc, ◌+◌, ◌<◌, ◌≤◌, Bool, true, false, cond, not, ◌&&◌, ◌||◌, eqb, ltb, leb, ◌⊎◌, ◌↔◌, List, [], ◌∷◌, ◌++◌, map, length, get_or, take, drop, Some, None, Decides, Option, sym, refl, ap, ◌∙◌, subst, inl, inr, arith}
+use Rattle.std.proofs.Common.{◌≡◌, ℕ, zero, suc, ◌+◌, ◌<◌, Bool, true, false, cond, not, ◌&&◌, ◌||◌, eqb, ltb, leb, ◌⊎◌, ◌↔◌, List, [], ◌∷◌, ◌++◌, length, get_or, take, Some, None, Option, sym, refl, ap, ◌∙◌, subst, inl, inr, arith}
 use mathlib.Core.Bool.{false≢true}
 use Rattle.std.proofs.lemmas.Bool.Decides.{nat_tests}
 use Rattle.std.proofs.lemmas.Slice.Eq.{bytes_eq-Decides}
-use Rattle.std.specs.Option.{option_map}
 use Rattle.std.specs.Str.{bytes_eq}
-use Rattle.types.specs.Types.{Leaf, Name, numbered, Ty, leaf, label0, label1, label2, size, replace, replace_opaque}
-use Rattle.types.specs.Words.{node, node_word, node_number, types, spell, encode, encode_all, whole, wanting, span, Spelled, AllSpelled}
-use Rattle.cores.specs.Meaning.{Word, Absent, Distinct, lookup, lookup_from, Outcome, gives, refuses, Stable, StablePaths}
+use Rattle.types.specs.Types.{Name, numbered, Ty, leaf, label0, label2, replace, replace_opaque}
+use Rattle.cores.specs.Meaning.{Word, Absent, Distinct, lookup_from, Outcome, gives, refuses, Stable, StablePaths}
 use Rattle.cores.specs.Lines.{Line, Entry, line_from, judge, blame, Closed, OnLine, OnEntries}
 use Rattle.cores.specs.MiniMl.{ml_line, ml_rule, ml_words}
 use Rattle.cores.specs.MiniC.{c_line, c_rule, c_words, pointer_at}
 use Rattle.cores.specs.Layers.{own, layer_rule, layer_words}
 use Rattle.cores.specs.Pairs.{pair_entries}
-use Rattle.cores.specs.Wrong.{wrong_rule, WrongBreaksLaw}
-use Rattle.cores.specs.Laws.{Accepts, AsWritten, GoesOn, TakesNone, FirstWrong, FirstRefused, cause_position, OwnAsWritten, BelowKept, OwnFirstRefused, FirstRefusedAbove, MarkSaysPtr, ShippedDistinct, FindsEach, FindsNoOther}
+use Rattle.cores.specs.Wrong.{WrongBreaksLaw}
+use Rattle.cores.specs.Laws.{AsWritten, GoesOn, TakesNone, FirstWrong, FirstRefused, cause_position, OwnAsWritten, BelowKept, OwnFirstRefused, FirstRefusedAbove, MarkSaysPtr, ShippedDistinct, FindsEach, FindsNoOther}
 use Rattle.cores.specs.declared.interface.Found.{Found}
 use Rattle.cores.specs.declared.interface.Operation.{Operation}
 use Rattle.cores.specs.declared.interface.Operation.TheVariants.{Literal, Function, Operator}
@@ -22,12 +20,9 @@ use Rattle.cores.specs.declared.layers.LayerCause.{LayerCause}
 use Rattle.cores.specs.declared.layers.LayerCause.TheVariants.{Own, Below}
 use Rattle.cores.specs.declared.lines.Position.{Position}
 use Rattle.cores.specs.declared.mini_c.CCause.{CCause}
-use Rattle.types.specs.declared.words.Node.{Node}
-use Rattle.types.specs.declared.words.Node.TheVariants.{Leaf as LeafNode, Label0, Label1, Label2}
 use Rattle.types.proofs.Same.{both, eqb_equal}
 use Rattle.cores.specs.Rules.{judge_sound, judge_complete, blame_gives, gives_blame, blame_refuses, first_wrong, replace_paths, map_same, line_from_on}
 use Rattle.cores.specs.Shipped.{ml_closed, c_closed}
-use Rattle.types.proofs.Spelling.{node_word_node, node_node_word, node_number_node, types_spell, types_encode_all, types_spelled, whole_is, is_whole, encode_injective, length_encode, span_one, spell_encode}
 
 pub stable_paths : {K : Type 0} (n : ℕ) (rule : Operation → List Ty → Outcome K) → Stable n rule → StablePaths rule
 stable_paths n rule law θ o ts t e =

@@ -1,11 +1,9 @@
 -- The answer of a line, once the arguments are compared with it.
-use Rattle.std.proofs.Common.{◌≡◌, ℕ, ◌<◌, ◌≤◌, Bool, true, false, cond, ◌&&◌, leb, List, ◌++◌, length, drop, Some, None, Ok, Err, Option, Result, sym, refl, ap, ◌∙◌, subst, arith}
+use Rattle.std.proofs.Common.{◌≡◌, ℕ, ◌<◌, ◌≤◌, Bool, true, false, cond, leb, List, ◌++◌, length, drop, Some, Ok, Err, Option, sym, ap, ◌∙◌, arith}
 use Rattle.std.proofs.lemmas.Bool.Decides.{nat_tests}
 use Rattle.types.specs.Words.{whole}
 use Rattle.cores.specs.Steps.{Items, Reached, start, run, proceed, result_words, worked, line_verdict, line_put, line_reply, line_leaves}
-use Rattle.cores.specs.declared.interface.Refusal.{Refusal}
-use Rattle.cores.specs.declared.interface.Refusal.TheVariants.{Cause, Size, Arguments, Short}
-use Rattle.cores.specs.declared.lines.Position.{Position}
+use Rattle.cores.specs.declared.interface.Refusal.TheVariants.{Size, Arguments, Short}
 
 pub worked_met : (b : ℕ) (o : Option Items) (l : Items) (args : List ℕ) (s : Reached) → o ≡ Some l → Ok s ≡ run b l.arguments (start args) →
     worked b o args ≡ Ok (result_words b s l.result)

@@ -1,16 +1,16 @@
 -- The definitions tried on values.
-use Rattle.std.proofs.Common.{◌≡◌, ℕ, true, false, [], ◌∷◌, map, Some, None, Ok, Err, codes, refl}
-use Rattle.types.specs.Types.{Ty, Name, at, unit, named, numbered, leaf, label0, label1, label2}
-use Rattle.types.specs.Words.{types, encode, encode_all, whole, span}
+use Rattle.std.proofs.Common.{◌≡◌, true, false, [], ◌∷◌, Some, None, Ok, Err, codes, refl}
+use Rattle.types.specs.Types.{Ty, at, unit, named, numbered, leaf, label0, label1, label2}
+use Rattle.types.specs.Words.{types, encode, whole, span}
 use Rattle.cores.specs.Meaning.{gives, refuses, lookup, label_name}
 use Rattle.cores.specs.Answers.{reply, leaves}
 use Rattle.cores.specs.MiniMl.{ml_words, ml_rule}
-use Rattle.cores.specs.MiniC.{c_words, c_rule}
+use Rattle.cores.specs.MiniC.{c_rule}
 use Rattle.cores.specs.Layers.{layer_words, layer_rule}
 use Rattle.cores.specs.Pairs.{pair_entries}
-use Rattle.cores.specs.declared.interface.Kind.TheVariants.{Label, Operator as Operates}
-use Rattle.cores.specs.declared.interface.Operation.TheVariants.{Literal, Function, Operator}
-use Rattle.cores.specs.declared.interface.Refusal.TheVariants.{Cause, Size, Arguments, Short}
+use Rattle.cores.specs.declared.interface.Kind.TheVariants.{Operator as Operates}
+use Rattle.cores.specs.declared.interface.Operation.TheVariants.{Function, Operator}
+use Rattle.cores.specs.declared.interface.Refusal.TheVariants.{Short}
 use Rattle.cores.specs.declared.layers.LayerCause.TheVariants.{Own, Below}
 
 abbrev int : Ty

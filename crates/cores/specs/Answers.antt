@@ -1,5 +1,5 @@
 -- What a core answers in words: what its rule says of the types that the words spell.
-use Rattle.std.specs.Prelude.{ℕ, Bool, cond, ◌&&◌, List, length, drop, Some, None, Ok, Err, Option, Result, nat_le}
+use Rattle.std.specs.Prelude.{ℕ, cond, ◌&&◌, List, length, drop, Some, None, Ok, Err, Option, Result, nat_le}
 use Rattle.types.specs.Types.{Ty, size}
 use Rattle.types.specs.Words.{types, spell, whole}
 use Rattle.cores.specs.Meaning.{Outcome, gives, refuses}

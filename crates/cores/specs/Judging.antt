@@ -1,20 +1,18 @@
 -- Comparing words with the items of a line comes to the same as comparing types with the line.
-use Rattle.std.specs.Prelude.{◌≡◌, ℕ, suc, ◌+◌, ◌%◌, ◌<◌, ◌≤◌, Bool, true, false, cond, ◌&&◌, List, [], ◌∷◌, ◌++◌, map, length, take, drop, Some, None, Ok, Err, Decides, Option, Result, ◌==◌, ◌≢◌, refl}
+use Rattle.std.specs.Prelude.{◌≡◌, ℕ, suc, ◌+◌, ◌<◌, Bool, true, false, cond, List, [], ◌∷◌, ◌++◌, take, drop, Some, None, Ok, Err, Option, Result, ◌==◌, ◌≢◌, refl}
 use Rattle.std.proofs.Common.{sym, ap, subst, ◌∙◌, arith}
 use Rattle.std.proofs.lemmas.Bool.{false≢true}
 use Rattle.std.proofs.lemmas.Bool.Decides.{nat_tests, same_from_decides}
 use Rattle.std.proofs.lemmas.Slice.Eq.{bytes_eq-Decides}
 use Rattle.std.specs.Option.{option_map}
-use Rattle.std.specs.List.{flat_map}
 use Rattle.std.specs.Str.{bytes_eq}
 use Rattle.types.specs.Types.{named, numbered, Ty, leaf, label0, label1, label2, size, same}
-use Rattle.types.specs.Words.{spell, encode, encode_all, types, whole, span, Spelled, AllSpelled}
+use Rattle.types.specs.Words.{spell, encode, encode_all, types, whole, Spelled, AllSpelled}
 use Rattle.cores.specs.Meaning.{Outcome, gives, refuses}
 use Rattle.cores.specs.Answers.{verdict, put}
 use Rattle.cores.specs.Lines.{Pattern, τ, ρ, plain, one, two, Line, fill, Known, nothing, settle, after, onward, fit, meets, value, concludes, judge, blame, Within, AllWithin, Inside, OnLine}
-use Rattle.cores.specs.Steps.{items_of, argument_items, Items, itemized, placed, Reached, start, settle_words, bound, or_at, behind, at_argument, at_end, step, proceed, run, words_of, item_words, result_words, worked, line_verdict, line_put, line_reply, line_leaves}
-use Rattle.cores.specs.declared.interface.Refusal.{Refusal}
-use Rattle.cores.specs.declared.interface.Refusal.TheVariants.{Cause, Size, Arguments, Short}
+use Rattle.cores.specs.Steps.{items_of, argument_items, itemized, placed, Reached, settle_words, bound, or_at, at_argument, at_end, proceed, run, words_of, item_words, result_words, worked, line_verdict, line_put, line_reply, line_leaves}
+use Rattle.cores.specs.declared.interface.Refusal.TheVariants.{Arguments}
 use Rattle.cores.specs.declared.lines.Position.{Position}
 use Rattle.cores.specs.declared.lines.Item.{Item}
 use Rattle.cores.specs.declared.lines.Item.TheVariants.{Arg, End, Label, Tau, Rho}

@@ -1,10 +1,9 @@
 -- The position that is refused is the first one with which no accepted list begins.
-use Rattle.std.specs.Prelude.{◌≡◌, ℕ, zero, suc, ◌+◌, ◌<◌, ◌≤◌, Bool, true, false, ◌⊎◌, List, [], ◌∷◌, ◌++◌, map, length, take, Some, None, Ok, Err, Option, Result, refl}
-use Rattle.std.proofs.Common.{sym, ap, subst, ◌∙◌, inl, inr, arith}
-use Rattle.std.proofs.lemmas.Bool.{false≢true}
+use Rattle.std.specs.Prelude.{◌≡◌, ℕ, suc, ◌+◌, ◌<◌, ◌≤◌, List, [], ◌∷◌, ◌++◌, map, length, take, Some, None, Ok, Err, Option, refl}
+use Rattle.std.proofs.Common.{sym, ap, ◌∙◌, arith}
 use Rattle.types.specs.Types.{Ty}
 use Rattle.cores.specs.Lines.{Pattern, fill, Known, onward, fit, meets, value}
-use Rattle.cores.specs.Fits.{Agrees, agrees_values, meets_fill, err_ok, onward_ok}
+use Rattle.cores.specs.Fits.{agrees_values, meets_fill, err_ok}
 
 -- arguments with which an accepted list begins
 abbrev pub Leads : ℕ → ℕ → List Pattern → List Ty → Known → Type 0

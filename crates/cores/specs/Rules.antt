@@ -1,13 +1,13 @@
 -- Rules by lines: they give what is written, keep the law, and refuse at the first wrong argument.
-use Rattle.std.specs.Prelude.{◌≡◌, ℕ, zero, suc, ◌+◌, ◌<◌, ◌≤◌, Bool, true, false, cond, ltb, ◌⊎◌, ◌↔◌, List, [], ◌∷◌, ◌++◌, map, length, take, Some, None, Ok, Err, Option, Result, ◌==◌, nat_lt, refl}
-use Rattle.std.proofs.Common.{sym, ap, subst, ◌∙◌, inl, inr, arith, zero-add}
+use Rattle.std.specs.Prelude.{◌≡◌, ℕ, suc, ◌+◌, ◌≤◌, Bool, true, false, cond, ltb, List, [], ◌∷◌, ◌++◌, map, take, Some, None, Ok, Err, Option, Result, ◌==◌, nat_lt, refl}
+use Rattle.std.proofs.Common.{sym, ap, ◌∙◌, inl, inr, arith}
 use Rattle.std.proofs.lemmas.Bool.{false≢true}
 use Rattle.std.proofs.lemmas.Bool.Decides.{Decides-ltb, nat_tests}
 use Rattle.types.specs.Types.{Leaf, Ty, leaf, label0, label1, label2, replace, replace_opaque}
 use Rattle.cores.specs.Meaning.{Outcome, gives, refuses}
-use Rattle.cores.specs.Lines.{Pattern, τ, ρ, plain, one, two, Line, fill, Known, nothing, onward, fit, meets, value, concludes, judge, Entry, label, operator, line_from, blame, Closed, Within, AllWithin, Inside, OnLine, OnEntries}
-use Rattle.cores.specs.Laws.{Accepts, GoesOn, TakesNone, FirstWrong}
-use Rattle.cores.specs.Fits.{Agrees, agrees_values, meets_fill, meets_sound, err_ok}
+use Rattle.cores.specs.Lines.{Pattern, τ, ρ, plain, one, two, Line, fill, Known, nothing, meets, value, concludes, judge, Entry, label, operator, line_from, blame, Closed, Within, AllWithin, Inside, OnLine, OnEntries}
+use Rattle.cores.specs.Laws.{Accepts, FirstWrong}
+use Rattle.cores.specs.Fits.{agrees_values, meets_fill, meets_sound}
 use Rattle.cores.specs.Refusals.{Wrong, meets_wrong}
 
 pub line_from_on : (P : Line → Type 0) (k : ℕ) (es : List Entry) (n : ℕ) → OnEntries P es → OnLine P (line_from k es n)

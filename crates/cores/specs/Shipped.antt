@@ -1,19 +1,19 @@
 -- The lines of mini-ML and mini-C: their arguments settle what they give, their labels are their own; so both keep the law.
-use Rattle.std.specs.Prelude.{◌≡◌, ℕ, ◌<◌, ◌≤◌, Bool, true, false, cond, List, [], ◌∷◌, map, length, Ok, Err, Option, Result, nat_le, refl}
-use Rattle.std.proofs.Common.{sym, ap, ◌∙◌, arith}
+use Rattle.std.specs.Prelude.{◌≡◌, ℕ, ◌≤◌, Bool, true, false, cond, List, length, Ok, Err, Option, Result, nat_le, refl}
+use Rattle.std.proofs.Common.{ap, ◌∙◌, arith}
 use Rattle.std.specs.Option.{option_map}
-use Rattle.types.specs.Types.{Ty, replace_opaque, size}
+use Rattle.types.specs.Types.{replace_opaque, size}
 use Rattle.types.specs.Words.{whole, types}
 use Rattle.cores.specs.Answers.{verdict, reply}
 use Rattle.cores.specs.Steps.{Items, itemized, line_reply}
 use Rattle.cores.specs.MiniC.{c_entries, c_line, c_rule, c_words, c_refusal, pointer_at}
 use Rattle.cores.specs.declared.interface.Refusal.{Refusal}
-use Rattle.cores.specs.declared.interface.Refusal.TheVariants.{Cause, Size, Arguments, Short}
+use Rattle.cores.specs.declared.interface.Refusal.TheVariants.{Size, Arguments, Short}
 use Rattle.cores.specs.declared.lines.Position.{Position}
 use Rattle.cores.specs.declared.mini_c.CCause.{CCause}
 use Rattle.cores.specs.Judging.{line_reply_lem}
 use Rattle.cores.specs.Meaning.{Outcome, gives, refuses, Stable}
-use Rattle.cores.specs.Lines.{Line, Closed, Inside, OnLine, OnEntries, judge, blame, line_from}
+use Rattle.cores.specs.Lines.{Closed, Inside, OnLine, judge, blame}
 use Rattle.cores.specs.MiniMl.{ml_entries, ml_line, ml_rule, ml_words}
 use Rattle.cores.specs.declared.interface.Operation.{Operation}
 use Rattle.cores.specs.declared.interface.Operation.TheVariants.{Literal, Function, Operator}

@@ -1,9 +1,9 @@
 -- Layers: their words and lines by numbers, and that they keep the laws where the core below does.
-use Rattle.std.specs.Prelude.{◌≡◌, ℕ, zero, suc, ◌+◌, ◌-◌, ◌<◌, ◌≤◌, Bool, true, false, cond, ltb, List, [], ◌∷◌, ◌++◌, map, length, Some, None, Ok, Err, Option, Result, ◌==◌, nat_eq, nat_le, nat_lt, refl}
-use Rattle.std.proofs.Common.{sym, ap, subst, ◌∙◌, arith, add-zero, add-suc, suc-add, length-append}
+use Rattle.std.specs.Prelude.{◌≡◌, ℕ, suc, ◌+◌, ◌-◌, ◌<◌, ◌≤◌, Bool, true, false, cond, ltb, List, [], ◌∷◌, ◌++◌, map, length, Some, None, Ok, Err, Option, Result, ◌==◌, nat_eq, nat_le, nat_lt, refl}
+use Rattle.std.proofs.Common.{sym, ap, ◌∙◌, arith, add-zero, add-suc, length-append}
 use Rattle.std.proofs.lemmas.Bool.{false≢true}
 use Rattle.std.proofs.lemmas.Bool.Decides.{nat_tests}
-use Rattle.std.proofs.lemmas.List.{length-map, append-nil}
+use Rattle.std.proofs.lemmas.List.{length-map}
 use Rattle.std.specs.Option.{option_map}
 use Rattle.std.specs.Str.{bytes_eq}
 use Rattle.types.specs.Types.{Name, Ty, replace_opaque}
@@ -12,12 +12,12 @@ use Rattle.cores.specs.Meaning.{Word, ProperWords, lookup_from, lookup, name_if_
 use Rattle.cores.specs.Answers.{verdict, put, reply, leaves}
 use Rattle.cores.specs.Lines.{Pattern, τ, ρ, plain, one, two, Line, Entry, label, operator, word, line_from, judge, blame, Closed, Within, AllWithin, Inside, OnLine, OnEntries}
 use Rattle.cores.specs.Steps.{Items, itemized, line_reply, line_leaves}
-use Rattle.cores.specs.Layers.{above, own_cause, own, layer_words, layer_rule}
+use Rattle.cores.specs.Layers.{own_cause, own, layer_words, layer_rule}
 use Rattle.cores.specs.declared.interface.Found.{Found}
 use Rattle.cores.specs.declared.interface.Operation.{Operation}
 use Rattle.cores.specs.declared.interface.Operation.TheVariants.{Literal, Function, Operator}
 use Rattle.cores.specs.declared.interface.Refusal.{Refusal}
-use Rattle.cores.specs.declared.interface.Refusal.TheVariants.{Cause, Size, Arguments, Short}
+use Rattle.cores.specs.declared.interface.Refusal.TheVariants.{Size, Arguments, Short}
 use Rattle.cores.specs.declared.layers.LayerCause.{LayerCause}
 use Rattle.cores.specs.declared.layers.LayerCause.TheVariants.{Own, Below}
 use Rattle.cores.specs.declared.lines.Position.{Position}

@@ -1,7 +1,7 @@
 -- A wrong core: mini-ML, but a function that returns a function is refused.
-use Rattle.std.specs.Prelude.{Bool, true, false, cond, List, [], ◌∷◌, length, ◌==◌}
+use Rattle.std.specs.Prelude.{Bool, false, cond, List, [], ◌∷◌, length, ◌==◌}
 use Rattle.types.specs.Types.{Ty, leaf, label0, label1, label2}
-use Rattle.cores.specs.Meaning.{Outcome, gives, refuses, Stable, StablePaths}
+use Rattle.cores.specs.Meaning.{Outcome, refuses, Stable, StablePaths}
 use Rattle.cores.specs.MiniMl.{ml_rule, ml_words}
 use Rattle.cores.specs.declared.interface.Operation.{Operation}
 use Rattle.cores.specs.declared.interface.Operation.TheVariants.{Literal, Function, Operator}

@@ -1,4 +1,6 @@
 // The interface of core languages, and the cores that we ship.
+#![tactic(auto)]
+
 pub mod interface;
 pub mod laws;
 pub mod layers;

@@ -11,9 +11,9 @@ returns-in-Ok c =
     let args = c.args.args.now in
     let out = c.args.out.now in
     record {
-      result = ap (c_outcome o) (sym c.in-Ok.is) ∙ c_reply o args (length out) c.answer-line.result _ c.answer-line.ensures.result c.line-of.ensures;
+      result = ap (c_outcome o) (sym c.in-Ok.is) ∙ c_reply o args (length out) c.answer_line.result _ c.answer_line.ensures.result c.line_of.ensures;
       left =
-          c.answer-line.ensures.left ∙ ap (λ l. line_leaves 0 l args out) c.line-of.ensures
+          c.answer_line.ensures.left ∙ ap (λ l. line_leaves 0 l args out) c.line_of.ensures
           ∙ line_leaves_lem (λ n. record { position = n; pointer = pointer_at (c_line o) n }) 0 (c_line o) args out (c_fits o);
     }
 
@@ -25,8 +25,8 @@ returns-in-Err c =
     record {
       result =
           ap Err c.marked.ensures ∙ ap (c_outcome o) (sym c.in-Err.is)
-          ∙ c_reply o args (length out) c.answer-line.result _ c.answer-line.ensures.result c.line-of.ensures;
+          ∙ c_reply o args (length out) c.answer_line.result _ c.answer_line.ensures.result c.line_of.ensures;
       left =
-          c.answer-line.ensures.left ∙ ap (λ l. line_leaves 0 l args out) c.line-of.ensures
+          c.answer_line.ensures.left ∙ ap (λ l. line_leaves 0 l args out) c.line_of.ensures
           ∙ line_leaves_lem (λ n. record { position = n; pointer = pointer_at (c_line o) n }) 0 (c_line o) args out (c_fits o);
     }

@@ -12,7 +12,7 @@ returns c =
     let out = c.args.out.now in
     record {
       result =
-          c.answer-line.ensures.result ∙ ap (λ l. line_reply 0 l args (length out)) c.line-of.ensures ∙ line_reply_lem 0 (ml_line o) args (length out) (ml_fits o);
+          c.answer_line.ensures.result ∙ ap (λ l. line_reply 0 l args (length out)) c.line_of.ensures ∙ line_reply_lem 0 (ml_line o) args (length out) (ml_fits o);
       left =
-          c.answer-line.ensures.left ∙ ap (λ l. line_leaves 0 l args out) c.line-of.ensures ∙ line_leaves_lem (λ n. record { number = n }) 0 (ml_line o) args out (ml_fits o);
+          c.answer_line.ensures.left ∙ ap (λ l. line_leaves 0 l args out) c.line_of.ensures ∙ line_leaves_lem (λ n. record { number = n }) 0 (ml_line o) args out (ml_fits o);
     }
