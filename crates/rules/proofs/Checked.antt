@@ -49,7 +49,7 @@ pub record FindsAll {C : Type 0} (rule : Operation → List Ty → Outcome C) (�
 pub unit_settled : (x : Name) (s : Signature) (Γ : Env) → Γ (unit x) ≡ None → SettledEnv Γ → Settled Γ s → SettledEnv (with_unit x s Γ)
 unit_settled x s Γ f e w =
     let k = λ (h : Head) (t : Signature) (q : Γ h ≡ Some t).
-    subst (Exact (with_unit x s Γ) (at h)) (sym (Rattle.rules.proofs.Algebra.signature-id t)) (exact_at (head (unit_kept x s Γ f h t q))) in
+    subst (Exact (with_unit x s Γ) (at h)) (sym (Rattle.rules.proofs.Algebra.signature_id t)) (exact_at (head (unit_kept x s Γ f h t q))) in
     unit_cases x s Γ (λ h t. Settled (with_unit x s Γ) t) (settled_finer Γ (with_unit x s Γ) s k w)
     (λ h t i. settled_finer Γ (with_unit x s Γ) t k (e h t i))
 

@@ -238,7 +238,7 @@ module _ {C : Type 0} (n : ℕ) (rule : Operation → List Ty → Outcome C) (la
         let c = j.own in
         let m = normal_type_lem (extend Γ (structure b)) (type_of t) w.0 e+ w.1 in
         let k = fits_along_fresh Γ (structure c) (structure b) j.matches in
-        let v = Rattle.rules.proofs.Knowing.normal-finer k m in
+        let v = Rattle.rules.proofs.Knowing.normal_finer k m in
         let y = same_finer (longer_extend Γ c x (defined (type_of t))) v.1 v.2 in
         let h = last_has Γ c x (defined (type_of t)) (undeclared_none j.derives a_type x u) in
         subst (λ z. ChecksAll rule Γ (more_items is x (type_item t)) (more b x z)) w.2
@@ -257,7 +257,7 @@ module _ {C : Type 0} (n : ℕ) (rule : Operation → List Ty → Outcome C) (la
         let y = same_finer (longer_extend Γ c x (value v.0)) (normal_normal v.2) v.2 in
         let h = last_has Γ c x (value v.0) (undeclared_none j.derives a_value x u) in
         let o = term_finer n rule law m (extend Γ (structure b)) (id_along (extend Γ (structure b))) in
-        let same : o.0 ≡ w.0 = Rattle.rules.proofs.Terms.term-unique rule o.1 m in
+        let same : o.0 ≡ w.0 = Rattle.rules.proofs.Terms.term_unique rule o.1 m in
         subst (λ z. ChecksAll rule Γ (more_items is x (let_item t)) (more b x z)) w.2
         (record {
           own = more c x (value v.0);

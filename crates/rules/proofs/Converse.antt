@@ -91,7 +91,7 @@ abstract_not_fresh Γ g w q x h = go (split q)
     go (inl o) = o
     go (inr f) =
         let v = transparent_found h.components (fresh_transparent f Γ g (structure h.components) w h.leads) a_type x h.declared h.found in
-        absurd (subst TransparentOne (Rattle.rules.proofs.Along.was-abstract (reading q) h.declared h.reads) v)
+        absurd (subst TransparentOne (Rattle.rules.proofs.Along.was_abstract (reading q) h.declared h.reads) v)
 
 pub normal_has : {Γ : Env} {t n : Ty} → Normal Γ t n → (p : ModulePath) (x : Name) → t ≡ leaf (named p x) → (d : Declaration) × Has Γ p a_type x d
 normal_has {Γ} (opaque {p = q} {x = y} h) p x e =
@@ -231,7 +231,7 @@ module _ (Γ : Env) (p : ModulePath) (s : Signature) (e : ProperEnv Γ) (a : At 
             let last : Fits Γz (on_signature κ (on_signature θ (functor t r))) (on_signature θ (functor t r)) =
             subst (λ z. Fits Γz z (on_signature θ (functor t r))) (sym (signature_comp κ θ (functor t r)))
             (proper_fits (functor t r) Γ'' Γz (after κ θ) θ w (then_along Γ'' Γz Γz κ θ k along_κ) k
-            (Rattle.rules.proofs.Reflexive.agree-sym Γ'' θ (after κ θ) Γz (agree_clear Γ'' θ k))) in
+            (Rattle.rules.proofs.Reflexive.agree_sym Γ'' θ (after κ θ) Γz (agree_clear Γ'' θ k))) in
             g_functor (functor t₁ r₁) v.0 (fits_trans first (fits_trans m last))
 
     back_all :

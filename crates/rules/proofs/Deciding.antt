@@ -1,6 +1,6 @@
 -- The matching function tells whether a settled signature matches.
 use Rattle.std.proofs.Common.{◌≡◌, ℕ, zero, suc, ◌+◌, ◌≤◌, Bool, true, ◌&&◌, Some, None, Option, sym, refl, ap, ◌∙◌, subst, ap₂, le_refl, arith}
-use Rattle.types.specs.Types.{Name, ModulePath, dot, named, Ty, leaf, same}
+use Rattle.types.specs.Types.{Name, ModulePath, dot, named, Ty, leaf}
 use Rattle.rules.specs.Signatures.{a_type, a_value, a_module, Signature, structure, functor, Components, empty, more, Declaration, abstract, defined, value, nested, find, extent, extent_all, extent_one}
 use Rattle.rules.specs.Substitution.{Substitution, under, innermost, out, lift, reading, on_type, on_signature, on_components, on_declaration}
 use Rattle.rules.specs.Lookup.{Env, extend, At, head}

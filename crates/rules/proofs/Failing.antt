@@ -155,7 +155,7 @@ module _ (n : ℕ) (f : Env → Option Name → Signature → Signature → Opti
             nowhere abstract h i = let y = has_sort h in clash (cc)
             nowhere (defined u) h i = let y = has_sort h in clash (cc)
             nowhere (value u) h i = let y = has_sort h in clash (cc)
-            nowhere (nested u) h i = let y = at_lookup (Rattle.rules.proofs.Reflexive.has-at h) in clash (cc)
+            nowhere (nested u) h i = let y = at_lookup (Rattle.rules.proofs.Reflexive.has_at h) in clash (cc)
         go (Some h) i ih =
             let at' = lookup_at Γ (dot p x) h i in
             let j = below_extent Γ p x g h a at' in

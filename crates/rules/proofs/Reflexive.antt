@@ -72,7 +72,7 @@ agree_weaken Γ' θ σ Γ g a p x h =
   where
     same :
         {Γ : Env} {t t' n : Ty} → (u : (m : Ty) × Normal Γ t m × Normal Γ n m) → (v : (m : Ty) × Normal Γ t' m × Normal Γ n m) → u.0 ≡ v.0
-    same u v = Rattle.rules.proofs.Finding.normal-unique u.2 v.2
+    same u v = Rattle.rules.proofs.Finding.normal_unique u.2 v.2
 
 -- a path shows a signature read along θ: defined types and values as they stand, abstract types somehow, functors as they stand
 abbrev mutual
@@ -92,7 +92,7 @@ abbrev mutual
 
 pub has_at : {Γ : Env} {q : ModulePath} {x : Name} {s : Signature} → Has Γ q a_module x (nested s) → At Γ (dot q x) s
 has_at {Γ} {q} {x} {s} h =
-    let w = Rattle.rules.proofs.Along.was-nested (reading q) h.declared s h.reads in
+    let w = Rattle.rules.proofs.Along.was_nested (reading q) h.declared s h.reads in
     inside h.components w.0 h.leads (h.found ∙ ap Some w.1) w.2
 
 -- a path that leads to a signature shows it

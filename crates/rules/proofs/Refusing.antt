@@ -93,7 +93,7 @@ module _ {C : Type 0} (n : ℕ) (rule : Operation → List Ty → Outcome C) (la
         to_type Γ place p x,
         path,
         subst (No rule (to_type Γ place p x)) w.1
-            (no_type (λ d h. put_none p x (declared p a_type x (lookup Γ p)) w.0 d (has_declared h) (Rattle.rules.proofs.Properness.has-sort h))),
+            (no_type (λ d h. put_none p x (declared p a_type x (lookup Γ p)) w.0 d (has_declared h) (Rattle.rules.proofs.Properness.has_sort h))),
       ))
       (λ a r s. type_size place a f (path_size a (some_of place (normal_type Γ (leaf (named p x))) a r)) s)
     where
@@ -246,7 +246,7 @@ module _ {C : Type 0} (n : ℕ) (rule : Operation → List Ty → Outcome C) (la
         (λ r'. map_told (λ q. in_body a r)
         (term_told b numbers Γ (type_of t ∷ Δ) f e z (listed_more Γ Δ (type_of t) a (ok_some (type_agrees {C = C} t Γ) a r) l) r'))
         (λ c r' s'. ask_told numbers Γ z place Function (a ∷ c ∷ []) f
-        (more_normal (Rattle.rules.proofs.Finding.normal-normal (normal_type_lem Γ (type_of t) a e (ok_some (type_agrees {C = C} t Γ) a r)))
+        (more_normal (Rattle.rules.proofs.Finding.normal_normal (normal_type_lem Γ (type_of t) a e (ok_some (type_agrees {C = C} t Γ) a r)))
         (more_normal (has_normal Γ (type_of t ∷ Δ) b c (type_has rule b Γ (type_of t ∷ Δ) c e (ok_some (term_agrees rule b numbers Γ (type_of t ∷ Δ)) c r'))) none_normal))
         (ask_function a c r r') (λ t i. function_size a c t r r' i) s'))
 

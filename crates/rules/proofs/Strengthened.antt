@@ -201,7 +201,7 @@ mutual
   proper_one_strengthen (defined t) Γ' Γ θ p x w k v = typed_along Knows knows_laws w θ Γ k
   proper_one_strengthen (value t) Γ' Γ θ p x w k v = typed_along Knows knows_laws w θ Γ k
   proper_one_strengthen (nested s) Γ' Γ θ p x w k v =
-      proper_strengthen' s Γ' Γ θ (dot p x) w k v (Rattle.rules.proofs.Properness.proper-along s Γ' Γ θ k w)
+      proper_strengthen' s Γ' Γ θ (dot p x) w k v (Rattle.rules.proofs.Properness.proper_along s Γ' Γ θ k w)
 
 pub proper_strengthen : (Γ : Env) (p : ModulePath) (s : Signature) → Proper Γ s → At Γ p s → Proper Γ (strengthen p s)
 proper_strengthen Γ p s w a =

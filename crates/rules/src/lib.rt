@@ -1,5 +1,8 @@
 // The rules of the module language over any core, and what holds of them.
 // Nothing is computed here: each function carries a theorem about the definitions in specs/, and takes constant time.
+
+#![tactic(auto)]
+
 ghost use Rattle.rules.specs.Statements.{NormalFormsExist, MatchingReflexive, MatchingTransitive, StrengtheningExact, DerivedIsSound, OneSignature, SixthRuleLast, LoadsAlike, DerivedExactly, OwnIsOne, OwnIsLeast, CheckDecides, FitDecides, CheckedIsOwn, RunDecides, RunFitDecides, MismatchIsFirst, NoMismatchMatches, RefusalsMean, KnownIsTidy, NumbersExact};
 ghost use Rattle.rules.specs.Samples.{Samples};
 ghost use Rattle.rules.specs.Errors.{ErrorsCaught};
