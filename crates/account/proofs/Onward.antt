@@ -1,5 +1,5 @@
 -- What the lexer says of the next token makes it follow.
-use Rattle.std.proofs.Common.{◌≡◌, ℕ, List, Some, None, Ok, Option, sym, refl, subst}
+use Rattle.std.proofs.Common.{◌≡◌, ℕ, List, Some, None, Ok, Option, sym, subst}
 use Rattle.tokens.proofs.Walk.{advance}
 use Rattle.tokens.specs.Lexer.{next_token, told, view}
 use Rattle.tokens.specs.declared.lexer.Placed.{Placed}

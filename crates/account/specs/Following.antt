@@ -1,7 +1,6 @@
 -- The tokens of a text one behind the other, as far as it lexes.
 use Rattle.std.specs.Prelude.{◌≡◌, ℕ, ◌<◌, ◌≤◌, List, length, Some, None, Option}
 use Rattle.tokens.specs.Lexer.{Next, at_end, token, no_token, next_token, view}
-use Rattle.tokens.specs.Pieces.{Piece}
 use Rattle.tokens.specs.declared.lexer.Placed.{Placed}
 
 -- no token comes next: the text ends, or none stands there

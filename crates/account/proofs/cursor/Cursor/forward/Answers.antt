@@ -3,11 +3,11 @@ use Rattle.account.proofs.Places.{behind_feed, behind_other, line_small}
 use Rattle.account.proofs.cursor.Cursor.forward.Goals as goal
 use Rattle.account.proofs.cursor.Cursor.forward.Goals.{then-text-at-eq10, else-text-at-eq10}
 
-pub overflow-add-line : goal.overflow-add-line
-overflow-add-line c = omega (arith, (line_small c.args.self.text.now c.loop-at.at c.loop-at.invariant.0).0)
+pub overflow_add-line : goal.overflow_add-line
+overflow_add-line c = omega (arith, (line_small c.args.self.text.now c.loop-at.at c.loop-at.invariant.0).0)
 
-pub overflow-add-column : goal.overflow-add-column
-overflow-add-column c = omega (arith, (line_small c.args.self.text.now c.loop-at.at c.loop-at.invariant.0).1)
+pub overflow_add-column : goal.overflow_add-column
+overflow_add-column c = omega (arith, (line_small c.args.self.text.now c.loop-at.at c.loop-at.invariant.0).1)
 
 pub loop-at-preserved : goal.loop-at-preserved
 loop-at-preserved c =
