@@ -190,15 +190,15 @@ module _ {C : Type 0} (v : ℕ) (rule : Operation → List Ty → Outcome C) (la
   of_signature (by_matching g f d w m) = clash (cc)
 
   ascribed_right :
-      (place inner-place : ℕ) (m : Module) (s : SignatureText) (G : Scope) (Γ : Env) (ρ : Meaning) (q : ℕ) → World G Γ ρ q → (a : Answer C Sig) → ModuleRight a m q Γ ρ →
+      (place inner_place : ℕ) (m : Module) (s : SignatureText) (G : Scope) (Γ : Env) (ρ : Meaning) (q : ℕ) → World G Γ ρ q → (a : Answer C Sig) → ModuleRight a m q Γ ρ →
       ((n : Sig) → SigRight {C = C} (check_sig G (q + size_of n) s) (signature_of s) (q + size_of n) Γ ρ) →
-      ModuleRight (and_then a (λ g. and_then (check_sig G (q + size_of g) s) (λ t. and_then (matches inner-place (match_sigs g t)) (λ σ. ok (copied q itself t))))) (ascribed place inner-place m s) q Γ ρ
-  ascribed_right place inner-place m s G Γ ρ q w (fault e) h ih = λ i t d. let y = of_signature d in h i y.0 y.1
-  ascribed_right place inner-place m s G Γ ρ q w (ok n) h ih = go (check_sig G (q + size_of n) s) (ih n)
+      ModuleRight (and_then a (λ g. and_then (check_sig G (q + size_of g) s) (λ t. and_then (matches inner_place (match_sigs g t)) (λ σ. ok (copied q itself t))))) (ascribed place inner_place m s) q Γ ρ
+  ascribed_right place inner_place m s G Γ ρ q w (fault e) h ih = λ i t d. let y = of_signature d in h i y.0 y.1
+  ascribed_right place inner_place m s G Γ ρ q w (ok n) h ih = go (check_sig G (q + size_of n) s) (ih n)
     where
       last :
           (t : Sig) → Like t (signature_of s) Γ ρ × Placed (q + size_of n) t × Sound Γ (signature_of s) → (b : Verdict) → VerdictRight b Γ ρ n h.0 t (signature_of s) →
-          ModuleRight (and_then (matches inner-place b) (λ σ. ok (copied q itself t))) (ascribed place inner-place m s) q Γ ρ
+          ModuleRight (and_then (matches inner_place b) (λ σ. ok (copied q itself t))) (ascribed place inner_place m s) q Γ ρ
       last t k (matched φ) y =
           (signature_of s, by_signature h.0 h.1 k.2 (fits_matches y.0), like_again t (signature_of s) Γ ρ q w.blank k.0, copy_placed t q itself)
       last t k (differs x c) y = λ i z d.
@@ -207,7 +207,7 @@ module _ {C : Type 0} (v : ℕ) (rule : Operation → List Ty → Outcome C) (la
 
       go :
           (a : Answer C Sig) → SigRight {C = C} a (signature_of s) (q + size_of n) Γ ρ →
-          ModuleRight (and_then a (λ t. and_then (matches inner-place (match_sigs n t)) (λ σ. ok (copied q itself t)))) (ascribed place inner-place m s) q Γ ρ
+          ModuleRight (and_then a (λ t. and_then (matches inner_place (match_sigs n t)) (λ σ. ok (copied q itself t)))) (ascribed place inner_place m s) q Γ ρ
       go (ok t) k =
           last t k (match_sigs n t)
           (match_right w q (q + size_of n) (omega arith) (omega arith) n h.0 h.2 (derives_proper v rule law h.1 w.proper) h.3
@@ -281,8 +281,8 @@ module _ {C : Type 0} (v : ℕ) (rule : Operation → List Ty → Outcome C) (la
         functor_right place s m G Γ ρ q w (check_sig G (suc q) s) (sig_right s C G Γ ρ (suc q) (later (suc q) (omega arith) w) o.0)
         (λ n z. module_right m (inner G n) (extend Γ (signature_of s)) (entered n ρ) (suc (q + size_of n)) z o.1)
     module_right (applied place m argument p) G Γ ρ q w o = applied_right place argument m p G Γ ρ q w (check_module rule G q m) (module_right m G Γ ρ q w o)
-    module_right (ascribed place inner-place m s) G Γ ρ q w o =
-        ascribed_right place inner-place m s G Γ ρ q w (check_module rule G q m) (module_right m G Γ ρ q w o.0)
+    module_right (ascribed place inner_place m s) G Γ ρ q w o =
+        ascribed_right place inner_place m s G Γ ρ q w (check_module rule G q m) (module_right m G Γ ρ q w o.0)
         (λ n. sig_right s C G Γ ρ (q + size_of n) (later (q + size_of n) (omega arith) w) o.1)
 
     pub items_right : (is : Items) (G : Scope) (Γ : Env) (ρ : Meaning) (q : ℕ) → World G Γ ρ q → OnceItems is → ItemsRight (check_items rule G q is) is q Γ ρ

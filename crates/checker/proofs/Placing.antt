@@ -91,14 +91,14 @@ module _ {C : Type 0} (rule : Operation → List Ty → Outcome C) where
         (module_placed m G q)
         (λ f h. holds_then (λ a. Unit {0}) (Placed q) (check_path G (q + size_of f) argument p) (λ a. apply_sig q place argument f a)
         (always (check_path G (q + size_of f) argument p)) (λ a k. apply_placed C q place argument f a))
-    module_placed (ascribed place inner-place m s) G q =
+    module_placed (ascribed place inner_place m s) G q =
         holds_then (Placed q) (Placed q) (check_module rule G q m)
-        (λ g. and_then (check_sig G (q + size_of g) s) (λ w. and_then (matches inner-place (match_sigs g w)) (λ σ. ok (copied q itself w))))
+        (λ g. and_then (check_sig G (q + size_of g) s) (λ w. and_then (matches inner_place (match_sigs g w)) (λ σ. ok (copied q itself w))))
         (module_placed m G q)
-        (λ g h. holds_then (λ w. Unit {0}) (Placed q) (check_sig G (q + size_of g) s) (λ w. and_then (matches inner-place (match_sigs g w)) (λ σ. ok (copied q itself w)))
+        (λ g h. holds_then (λ w. Unit {0}) (Placed q) (check_sig G (q + size_of g) s) (λ w. and_then (matches inner_place (match_sigs g w)) (λ σ. ok (copied q itself w)))
         (always (check_sig G (q + size_of g) s))
-        (λ w k. holds_then (λ σ. Unit {0}) (Placed q) (matches inner-place (match_sigs g w)) (λ σ. ok (copied q itself w))
-        (always (matches inner-place (match_sigs g w))) (λ σ l. copy_placed w q itself)))
+        (λ w k. holds_then (λ σ. Unit {0}) (Placed q) (matches inner_place (match_sigs g w)) (λ σ. ok (copied q itself w))
+        (always (matches inner_place (match_sigs g w))) (λ σ l. copy_placed w q itself)))
 
     items_placed : (is : Items) (G : Scope) (q : ℕ) → Holds (PlacedAll q) (check_items rule G q is)
     items_placed no_items G q = tt

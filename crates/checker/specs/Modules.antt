@@ -41,10 +41,10 @@ abbrev mutual
   check_module rule Γ q (applied place m argument p) =
       and_then (check_module rule Γ q m) (λ f.
       and_then (check_path Γ (q + size_of f) argument p) (λ a. apply_sig q place argument f a))
-  check_module rule Γ q (ascribed place inner-place m s) =
+  check_module rule Γ q (ascribed place inner_place m s) =
       and_then (check_module rule Γ q m) (λ g.
       and_then (check_sig Γ (q + size_of g) s) (λ w.
-      and_then (matches inner-place (match_sigs g w)) (λ σ. ok (copied q itself w))))
+      and_then (matches inner_place (match_sigs g w)) (λ σ. ok (copied q itself w))))
 
   -- the components of a structure, each item with those before it known
   pub check_items : {C : Type 0} → (Operation → List Ty → Outcome C) → Scope → ℕ → Items → Answer C Parts

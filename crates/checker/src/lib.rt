@@ -1,5 +1,8 @@
 // The checker of units as a definition, and what holds of it over every core.
 // Nothing is computed here: each function carries a theorem about the definitions in specs/, and takes constant time.
+
+#![tactic(auto)]
+
 ghost use Rattle.checker.specs.Samples.{CheckSamples, FitSamples};
 ghost use Rattle.checker.specs.Limits.{LimitSamples};
 ghost use Rattle.checker.specs.Failing.{FirstFailure, MatchesItself};
