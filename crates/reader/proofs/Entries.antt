@@ -75,7 +75,7 @@ items_entries =
     ∷ record {
       first = Class.«Type»;
       after = Symbol.TypeItem ∷ [];
-      make = λ l ts. ItemTrees.definedType ts.0.0 ts.0.1.0 ts.0.1.1;
+      make = λ l ts. ItemTrees.defined_type ts.0.0 ts.0.1.0 ts.0.1.1;
       shown = λ l ts rest. refl;
     }
     ∷ record {
@@ -150,7 +150,7 @@ module_entries c =
     ∷ record {
       first = Class.Struct;
       after = Symbol.Items ∷ Symbol.Arguments c ∷ [];
-      make = λ l ts. (ModuleTree.structEnd ts.0 ts.1.0.0, ts.1.0.1);
+      make = λ l ts. (ModuleTree.struct_end ts.0 ts.1.0.0, ts.1.0.1);
       shown = λ l ts rest. refl;
     }
     ∷ record {
@@ -250,7 +250,7 @@ argument_end_entries =
 
 abbrev pub signature_entries : List (Entry Symbol.Signature)
 signature_entries =
-    record { first = Class.Sig; after = Symbol.Specs ∷ []; make = λ l ts. SignatureTree.sigEnd ts.0; shown = λ l ts rest. refl }
+    record { first = Class.Sig; after = Symbol.Specs ∷ []; make = λ l ts. SignatureTree.sig_end ts.0; shown = λ l ts rest. refl }
     ∷ record {
       first = Class.Functor;
       after = Symbol.Token Class.Open ∷ Symbol.SignatureParameter ∷ [];
@@ -271,8 +271,8 @@ signature_parameter_entries =
 
 -- a type in a signature, abstract or defined
 abbrev pub type_spec : Name → Option TypeTree → SpecTrees → SpecTrees
-type_spec t None more = SpecTrees.abstractType t more
-type_spec t (Some u) more = SpecTrees.definedType t u more
+type_spec t None more = SpecTrees.abstract_type t more
+type_spec t (Some u) more = SpecTrees.defined_type t u more
 
 pub type_spec_shown :
     (t : Name) (o : Option TypeTree) (more : SpecTrees) (rest : List Token) →

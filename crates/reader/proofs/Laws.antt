@@ -212,16 +212,16 @@ quiet_run :
 quiet_run ts [] τ vs rest r q e = ap (λ (x : List Token). rank_run τ x r) (sym e)
 quiet_run [] (s ∷ σ) τ vs rest r q e =
     let o = from s vs.0 in
-    absurd (theory.nil-cons Token Symbol Tree print choose from
-    (sym e ∙ theory.from-shown Token Symbol Tree print choose from s o.0 vs.0 o.1 (prints σ vs.1 rest)))
+    absurd (theory.nil_cons Token Symbol Tree print choose from
+    (sym e ∙ theory.from_shown Token Symbol Tree print choose from s o.0 vs.0 o.1 (prints σ vs.1 rest)))
 quiet_run (k ∷ ks) (s ∷ σ) τ vs rest r q e =
     let f = theory.begins Token Symbol Tree print choose from s vs.0 (prints σ vs.1 rest) k ks e in
-    let g = theory.begins-rest Token Symbol Tree print choose from s vs.0 (prints σ vs.1 rest) k ks f e in
+    let g = theory.begins_rest Token Symbol Tree print choose from s vs.0 (prints σ vs.1 rest) k ks f e in
     let α : List Symbol = f.way.after in
     let x : expand s (class_of k) ≡ Some α = sym (expand_is s k) ∙ ap (theory.afters Token Symbol Tree print) f.chosen in
     let ih = quiet_run ks (α ++ σ) τ (theory.join Token Symbol Tree print α σ f.parts vs.1) rest r
     (quiet_append α σ (quiet_after s (class_of k) α q.0 x) q.1)
-    (theory.prints-join Token Symbol Tree print α σ f.parts vs.1 rest ∙ g) in
+    (theory.prints_join Token Symbol Tree print α σ f.parts vs.1 rest ∙ g) in
     rank_step s (σ ++ τ) k ks r α x
     ∙ ap (λ (n : ℕ). rank_run (α ++ (σ ++ τ)) ks n) (learn_quiet s k r q.0)
     ∙ ap (λ (ρ : List Symbol). rank_run ρ ks r) (sym (append_assoc α σ τ))

@@ -300,7 +300,7 @@ annotated (next k p st) (s ∷ σ) attrs vs e =
     let c : class_of k ≡ o.entry.first = ap class_of f.0 ∙ class_whole o.entry.first o.holds in
     let ih = annotated st (α ++ σ) (handed s o.entry.first (top_of attrs) (name_of k) α ++ below_top attrs)
     (theory.join Token Symbol Tree print α σ o.parts vs.1)
-    (f.1 ∙ ap Some (sym (theory.prints-join Token Symbol Tree print α σ o.parts vs.1 []))) in
+    (f.1 ∙ ap Some (sym (theory.prints_join Token Symbol Tree print α σ o.parts vs.1 []))) in
     let j = notes_join α σ (rules s o.entry.first) (top_of attrs) (around s o.entry.first (top_of attrs))
     (entered (introduces s o.entry.first) (name_of k) (around s o.entry.first (top_of attrs)).scope) (below_top attrs) o.parts vs.1 [] in
     next_step s σ attrs k p st o.entry.first α c (table_is s vs.0 o)

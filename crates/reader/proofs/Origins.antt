@@ -54,14 +54,14 @@ at {e = e} i l ts = record { entry = e; is_in = i; holds = l; parts = ts; made =
 
 origin_items : (t : ItemTrees) → Origin Symbol.Items items_entries t
 origin_items ItemTrees.done = at here tt tt
-origin_items (ItemTrees.definedType x u more) = at (there refl here) tt ((x, (u, more)), tt)
+origin_items (ItemTrees.defined_type x u more) = at (there refl here) tt ((x, (u, more)), tt)
 origin_items (ItemTrees.value x e more) = at (there refl (there refl here)) tt ((x, (e, more)), tt)
 origin_items (ItemTrees.submodule x m more) = at (there refl (there refl (there refl here))) tt ((x, (m, more)), tt)
 
 origin_specs : (t : SpecTrees) → Origin Symbol.Specs specs_entries t
 origin_specs SpecTrees.done = at here tt tt
-origin_specs (SpecTrees.abstractType x more) = at (there refl here) tt ((x, (None, more)), tt)
-origin_specs (SpecTrees.definedType x u more) = at (there refl here) tt ((x, (Some u, more)), tt)
+origin_specs (SpecTrees.abstract_type x more) = at (there refl here) tt ((x, (None, more)), tt)
+origin_specs (SpecTrees.defined_type x u more) = at (there refl here) tt ((x, (Some u, more)), tt)
 origin_specs (SpecTrees.value x u more) = at (there refl (there refl here)) tt ((x, (u, more)), tt)
 origin_specs (SpecTrees.submodule x s more) = at (there refl (there refl (there refl here))) tt ((x, (s, more)), tt)
 
@@ -96,7 +96,7 @@ origin_term (TermTree.atom a) =
     (behind _ _ _ (refl, (refl, (refl, (refl, (refl, (refl, (refl, tt))))))) (behind _ _ _ (refl, (refl, (refl, (refl, (refl, (refl, tt)))))) o)))
 
 origin_signature : (t : SignatureTree) → Origin Symbol.Signature (entries Symbol.Signature) t
-origin_signature (SignatureTree.sigEnd ss) = at here tt (ss, tt)
+origin_signature (SignatureTree.sig_end ss) = at here tt (ss, tt)
 origin_signature (SignatureTree.functor x p r) = at (there refl here) tt (tt, ((x, (p, r)), tt))
 
 origin_type_spec_end : (o : Option TypeTree) (more : SpecTrees) → Origin Symbol.TypeSpecEnd (entries Symbol.TypeSpecEnd) (o, more)
@@ -135,7 +135,7 @@ origin_labels TypeContext.Bracketed (l ∷ ls) a = at here l ((ls, a), tt)
 origin_module : (c : ModuleContext) (m : ModuleTree) (a : AfterModule c) → Origin (Symbol.Module c) (entries (Symbol.Module c)) (m, a)
 origin_module c (ModuleTree.functor x s m) a = at here tt (tt, ((x, (s, (m, a))), tt))
 origin_module c (ModuleTree.path p ps) a = at (there refl here) p.first ((p.more, (ps, a)), tt)
-origin_module c (ModuleTree.structEnd is ps) a = at (there refl (there refl here)) tt (is, ((ps, a), tt))
+origin_module c (ModuleTree.struct_end is ps) a = at (there refl (there refl here)) tt (is, ((ps, a), tt))
 origin_module c (ModuleTree.bracket m ps) a = at (there refl (there refl (there refl here))) tt ((m, None), ((ps, a), tt))
 origin_module c (ModuleTree.ascribed m s ps) a = at (there refl (there refl (there refl here))) tt ((m, Some s), ((ps, a), tt))
 
@@ -290,10 +290,10 @@ some_path : ModulePath
 some_path = record { first = []; more = [] }
 
 some_module : ModuleTree
-some_module = ModuleTree.structEnd ItemTrees.done []
+some_module = ModuleTree.struct_end ItemTrees.done []
 
 some_signature : SignatureTree
-some_signature = SignatureTree.sigEnd SpecTrees.done
+some_signature = SignatureTree.sig_end SpecTrees.done
 
 some_after_type : (c : TypeContext) → AfterType c
 some_after_type TypeContext.Items = ItemTrees.done

@@ -16,4 +16,4 @@ mod stack;
 mod statics;
 pub mod symbol;
 mod table;
-mod types;
+mod type_grammar;
