@@ -26,8 +26,8 @@ returns-in_err-ask_statics g c =
     c.in_ok-rank.rank c.in_err-ask_statics.field-0.0 c.in_ok-rank.ensures c.in_err-ask_statics.ensures in
     record { answer = a; meaning = unit_so g.C.Core.words c.args.text.now (length c.args.scratch.now) (headed c.from_residual-in_err-ask_statics.result) a }
 
-pub overflow-cast-result : goal.overflow-cast-result
-overflow-cast-result g c =
+pub overflow_cast-result : goal.overflow_cast-result
+overflow_cast-result g c =
     let h = rank_fits (stream_of g.C.Core.words c.args.text.now) c.in_ok-rank.rank c.in_ok-rank.ensures in
     omega arith
 
