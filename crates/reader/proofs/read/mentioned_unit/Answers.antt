@@ -3,7 +3,9 @@ use Rattle.std.proofs.lemmas.Result.{err_from_is_err_and}
 use Rattle.reader.specs.declared.fault.ReadFault.{ReadFault}
 use Rattle.reader.specs.Mentions.{mention_answer}
 use Rattle.reader.specs.Named.{named_at, mentioned}
+use Rattle.reader.proofs.Means.{accepts}
 use Rattle.reader.proofs.Mentioned.{mention_so, mention_refused, mention_found, ok_inside}
+use Rattle.reader.specs.declared.parse.Start.{Start}
 use Rattle.reader.proofs.read.mentioned_unit.Goals as goal
 
 pub returns-in_err-parse : goal.returns-in_err-parse
@@ -34,3 +36,6 @@ returns-in-None g c =
     mention_found g.C.Core.words c.args.text.now (length c.args.scratch.now) c.args.from room short
     c.in_ok-parse.field-0 None c.in_ok-parse.ensures (ok_inside (ap Ok (sym c.in-None.is) ∙ c.in_ok-place.ensures)) in
     record { answer = a; meaning = mention_so g.C.Core.words c.args.text.now (length c.args.scratch.now) c.args.from (Ok None) a }
+
+pub unit_mention-requires-clause-accepted : goal.unit_mention-requires-clause-accepted
+unit_mention-requires-clause-accepted g c = accepts Start.«Unit» g.C.Core.words c.args.text.now c.in_ok-parse.field-0 c.in_ok-parse.ensures

@@ -3,7 +3,8 @@ use Rattle.std.proofs.lemmas.Result.{err_from_is_err_and}
 use Rattle.reader.specs.declared.fault.ReadFault.TheVariants.{Syntax}
 use Rattle.reader.specs.Answers.{headed}
 use Rattle.reader.specs.Streams.{stream_of}
-use Rattle.reader.proofs.Means.{unit_refused, unit_statics, unit_accepted, unit_so, rank_fits}
+use Rattle.reader.proofs.Means.{accepts, unit_refused, unit_statics, unit_accepted, unit_so, rank_fits}
+use Rattle.reader.specs.declared.parse.Start.{Start}
 use Rattle.reader.proofs.read.read_unit.Goals as goal
 
 pub returns-in_err-rank : goal.returns-in_err-rank
@@ -46,3 +47,6 @@ returns-in-None g c =
     let a = unit_accepted g.C.Core.words c.args.text.now (length c.args.scratch.now) room short
     c.in_ok-rank.rank None c.in_ok-rank.ensures c.in_ok-ask_statics.ensures c.in-None.ensures in
     record { answer = a; meaning = unit_so g.C.Core.words c.args.text.now (length c.args.scratch.now) (Err (Syntax (length c.args.text.now))) a }
+
+pub ask_statics-requires-clause-accepted : goal.ask_statics-requires-clause-accepted
+ask_statics-requires-clause-accepted g c = accepts Start.«Unit» g.C.Core.words c.args.text.now c.in_ok-rank.rank c.in_ok-rank.ensures
