@@ -1,17 +1,16 @@
 -- The grammar's rows with the trees that they build: one entry for each row.
-use Rattle.std.proofs.Common.{◌≡◌, ℕ, Bool, true, false, cond, eqb, List, [], ◌∷◌, map, Some, None, Option, sym, refl, ap, ◌∙◌, subst}
+use Rattle.std.proofs.Common.{◌≡◌, ℕ, List, [], ◌∷◌, map, Some, None, Option, refl, ◌∙◌}
 use Rattle.tokens.specs.declared.token.Keyword.{Keyword}
 use Rattle.types.specs.Types.{Name}
 use Rattle.reader.specs.declared.class.Class.{Class}
 use Rattle.reader.specs.declared.symbol.Symbol.{Symbol}
 use Rattle.reader.specs.declared.symbol.TypeContext.{TypeContext}
 use Rattle.reader.specs.declared.symbol.ModuleContext.{ModuleContext}
-use Rattle.reader.specs.Tokens.{Token, keyword, lower, upper, class_of}
-use Rattle.reader.specs.Syntax.{LongName, ModulePath, TypeTree, TermTree, AtomTree, SignatureTree, SpecTrees, ModuleTree, ItemTrees, RankTree, UnitTree}
+use Rattle.reader.specs.Tokens.{Token, keyword, lower}
+use Rattle.reader.specs.Syntax.{LongName, ModulePath, TypeTree, TermTree, AtomTree, SignatureTree, SpecTrees, ModuleTree, ItemTrees}
 use Rattle.reader.specs.Print.{«open», print_type, print_specs, print_module, print_arguments, print_labels}
-use Rattle.reader.specs.Grammar.{Row, ◌⇒◌, number, find, rows, expand, after_type, after_module}
-use Rattle.reader.proofs.Loads.{Load, Loaded, whole, load, class_whole, whole_injective, same_class, class_same}
-use Rattle.reader.proofs.Shapes.{Tree, print, AfterType, AfterModule, print_type_end, print_module_end, print_definition}
+use Rattle.reader.proofs.Loads.{Load, whole}
+use Rattle.reader.proofs.Shapes.{Tree, print, print_type_end, print_module_end, print_definition}
 use Rattle.reader.proofs.Theory as theory
 
 abbrev pub Trees : List Symbol → Type 0

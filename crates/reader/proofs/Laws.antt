@@ -1,15 +1,15 @@
 -- Reading is what the grammar says: the laws of the reader over streams of tokens.
-use Rattle.std.proofs.Common.{◌≡◌, ℕ, Bool, true, false, cond, ◌⊎◌, List, [], ◌∷◌, ◌++◌, Some, None, Option, sym, refl, ap, ◌∙◌, subst, inl, inr, ⊎_elim, append_assoc, arith}
+use Rattle.std.proofs.Common.{◌≡◌, ℕ, Bool, true, false, cond, List, [], ◌∷◌, ◌++◌, Some, None, Option, sym, refl, ap, ◌∙◌, subst, append_assoc, arith}
 use Rattle.tokens.specs.Integers.{decimal}
 use Rattle.tokens.specs.declared.token.Mark.{Mark}
 use Rattle.reader.specs.declared.class.Class.{Class}
 use Rattle.reader.specs.declared.symbol.Symbol.{Symbol}
-use Rattle.reader.specs.Tokens.{Token, mark, keyword, lower, upper, integer, label0, label1, label2, operator0, operator1, operator2, operator3, text_end, class_of, is_rank}
-use Rattle.reader.specs.Syntax.{UnitTree, RankTree, SignatureTree}
-use Rattle.reader.specs.Print.{print_unit, print_rank, print_items, print_signature, print_signature_text}
+use Rattle.reader.specs.Tokens.{Token, mark, keyword, lower, upper, integer, label0, label1, label2, operator0, operator1, operator2, operator3, text_end, class_of}
+use Rattle.reader.specs.Syntax.{UnitTree, RankTree}
+use Rattle.reader.specs.Print.{print_unit, print_rank, print_items, print_signature_text}
 use Rattle.reader.specs.Grammar.{find, expand}
 use Rattle.reader.specs.Streams.{Stream, finish, broken, next, tokens_in, in_front}
-use Rattle.reader.specs.Reading.{Outcome, accepted, refused, default_rank, learn, is_rank_value, onward, ending, reads, unit_start, signature_start, rank_of, Begins, StandsAt, NeverGoesOn, FirstRefused, UnitOutcome, SignatureOutcome, UnitsAreRead, SignaturesAreRead, OneTree}
+use Rattle.reader.specs.Reading.{Outcome, accepted, refused, default_rank, learn, onward, ending, reads, unit_start, signature_start, rank_of, Begins, StandsAt, NeverGoesOn, FirstRefused, UnitOutcome, SignatureOutcome, UnitsAreRead, SignaturesAreRead, OneTree}
 use Rattle.reader.proofs.Shapes.{Tree, print}
 use Rattle.reader.proofs.Entries.{Trees, prints, entries}
 use Rattle.reader.proofs.Choosing.{choose, picked_rows, from_origin, same}

@@ -1,13 +1,13 @@
 -- Every tree of every symbol comes from one of the symbol's entries; every symbol has a tree.
-use Rattle.std.proofs.Common.{◌≡◌, ℕ, Bool, true, false, cond, List, [], ◌∷◌, map, Some, None, Option, sym, refl, ap, ◌∙◌, subst}
+use Rattle.std.proofs.Common.{◌≡◌, ℕ, Bool, true, false, List, [], ◌∷◌, map, Some, None, Option, refl, ap}
 use Rattle.reader.specs.declared.class.Class.{Class}
 use Rattle.reader.specs.declared.symbol.Symbol.{Symbol}
 use Rattle.reader.specs.declared.symbol.TypeContext.{TypeContext}
 use Rattle.reader.specs.declared.symbol.ModuleContext.{ModuleContext}
-use Rattle.reader.specs.Tokens.{Token, class_of, is_rank}
-use Rattle.reader.specs.Syntax.{LongName, ModulePath, TypeTree, TermTree, AtomTree, SignatureTree, SpecTrees, ModuleTree, ItemTrees, RankTree, UnitTree}
-use Rattle.reader.specs.Grammar.{Row, ◌⇒◌, rows}
-use Rattle.reader.proofs.Loads.{Load, Digits}
+use Rattle.reader.specs.Tokens.{Token, is_rank}
+use Rattle.reader.specs.Syntax.{LongName, ModulePath, TypeTree, TermTree, AtomTree, SignatureTree, SpecTrees, ModuleTree, ItemTrees, RankTree}
+use Rattle.reader.specs.Grammar.{◌⇒◌, rows}
+use Rattle.reader.proofs.Loads.{Load}
 use Rattle.reader.proofs.Shapes.{Tree, print, AfterType, AfterModule}
 use Rattle.reader.proofs.Entries.{Trees, Entry, entries, lift, items_entries, specs_entries, module_end_entries, type_end_entries, atom_entries, arguments_entries, token_entries}
 use Rattle.reader.proofs.Choosing.{In, here, there, same, Origin}

@@ -1,10 +1,10 @@
 -- What each token of a text is told: how many are open at it, whether it declares a name again, and what it is found to be if it
 -- is the head of a path. For each printer of the grammar there is one here of the same shape, which gives one note for each token.
-use Rattle.std.specs.Prelude.{ℕ, ◌+◌, Bool, true, false, List, [], ◌∷◌, Some, None, Option}
+use Rattle.std.specs.Prelude.{ℕ, ◌+◌, Bool, false, List, [], ◌∷◌, Some, None, Option}
 use Rattle.types.specs.Types.{Name}
 use Rattle.reader.specs.declared.scope.Sort.{Sort}
 use Rattle.reader.specs.declared.scope.Binder.{Binder}
-use Rattle.reader.specs.Scopes.{Binding, Scope, Resolution, component, bound, nowhere, seek, is_declared}
+use Rattle.reader.specs.Scopes.{Scope, Resolution, component, bound, nowhere, seek, is_declared}
 use Rattle.reader.specs.Syntax.{LongName, ModulePath, TypeTree, TermTree, AtomTree, SignatureTree, SpecTrees, ModuleTree, ItemTrees, RankTree, UnitTree}
 
 -- what a head is found to be: a component of a binder, a binder itself, a unit, or not declared

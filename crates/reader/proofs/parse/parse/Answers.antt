@@ -1,7 +1,7 @@
-use Rattle.std.proofs.Common.{◌≡◌, ℕ, ◌+◌, ◌*◌, ◌<◌, ◌≤◌, true, List, [], ◌∷◌, ◌++◌, length, Some, None, Ok, Err, sym, refl, ap, ◌∙◌, subst, arith}
+use Rattle.std.proofs.Common.{◌≡◌, ℕ, ◌<◌, ◌≤◌, true, List, [], ◌∷◌, ◌++◌, length, Some, None, Ok, Err, sym, refl, ap, ◌∙◌, arith}
 use Rattle.std.proofs.lemmas.Result.{err_from_is_err_and}
-use Rattle.tokens.specs.Lexer.{view, token, at_end, told, next_token}
-use Rattle.tokens.proofs.Walk.{Advance, advance}
+use Rattle.tokens.specs.Lexer.{view, token, told, next_token}
+use Rattle.tokens.proofs.Walk.{advance}
 use Rattle.cores.specs.Meaning.{Word}
 use Rattle.reader.specs.declared.parse.Start.{Start}
 use Rattle.reader.specs.declared.symbol.Symbol.{Symbol}

@@ -1,4 +1,4 @@
-use Rattle.std.proofs.Common.{◌≡◌, ℕ, ◌-◌, ◌<◌, sym, refl, ap, ◌∙◌, subst}
+use Rattle.std.proofs.Common.{ℕ, ◌-◌, ◌<◌, sym, refl, ap, ◌∙◌, subst}
 use Rattle.reader.specs.Rows.{scope_of, entry_at, parent_at}
 use Rattle.reader.specs.Scopes.{is_declared}
 use Rattle.reader.proofs.Outward.{parent_falls, declared_by, declares_itself, declares_here, declares_later, declared_none}

@@ -1,5 +1,5 @@
-use Rattle.std.proofs.Common.{◌≡◌, ℕ, ◌-◌, ◌<◌, sym, refl, ap, ◌∙◌, subst}
-use Rattle.reader.specs.Rows.{scope_of, entry_at, parent_at, is_nowhere}
+use Rattle.std.proofs.Common.{ℕ, ◌-◌, ◌<◌, sym, ap, ◌∙◌, subst}
+use Rattle.reader.specs.Rows.{scope_of, parent_at, is_nowhere}
 use Rattle.reader.specs.Scopes.{seek}
 use Rattle.reader.proofs.Outward.{parent_falls, sought_by, sought_here, sought_later, sought_none}
 use Rattle.reader.proofs.row.is_nowhere.Goals as goal

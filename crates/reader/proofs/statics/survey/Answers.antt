@@ -1,20 +1,18 @@
-use Rattle.std.proofs.Common.{◌≡◌, ℕ, suc, ◌+◌, ◌-◌, ◌*◌, ◌<◌, ◌≤◌, true, List, [], ◌∷◌, ◌++◌, length, Some, None, Ok, Err, sym, refl, ap, ◌∙◌, subst, arith}
-use Rattle.tokens.specs.Lexer.{view, token, at_end, told, next_token}
-use Rattle.tokens.proofs.Walk.{Advance, advance}
+use Rattle.std.proofs.Common.{◌≡◌, ◌-◌, ◌<◌, List, ◌++◌, length, Ok, sym, ap, ◌∙◌, subst, arith}
+use Rattle.tokens.specs.Lexer.{view, token, told, next_token}
+use Rattle.tokens.proofs.Walk.{advance}
 use Rattle.reader.specs.declared.class.Class.{Class}
-use Rattle.reader.specs.declared.notes.Firsts.{Firsts}
 use Rattle.reader.specs.declared.symbol.Symbol.{Symbol}
-use Rattle.reader.specs.Annotate.{annotate, Attr, inherits, rules, introduces, first_where, is_too_deep, is_again, is_undeclared, names_unit}
-use Rattle.reader.specs.Firsts.{start_attrs, EnteredRow, span_of}
+use Rattle.reader.specs.Annotate.{annotate, inherits, first_where, is_too_deep, is_again, is_undeclared, names_unit}
+use Rattle.reader.specs.Firsts.{EnteredRow}
 use Rattle.reader.specs.Frames.{symbols_of, attrs_of, attr_of, placed, symbol_kept}
 use Rattle.reader.specs.Reading.{learn}
 use Rattle.reader.specs.Tokens.{token_of}
-use Rattle.reader.specs.Parsing.{start_of}
 use Rattle.reader.specs.Rows.{scope_of}
 use Rattle.reader.specs.Streams.{stream_of}
 use Rattle.reader.proofs.Begun.{first_symbols, first_attrs_lem, start_long, begun_state, begun_noting, all_notes, ok_of}
-use Rattle.reader.proofs.Capacity.{symbols_long, sealed_frames}
-use Rattle.reader.proofs.Noting.{Noting, map_attrs}
+use Rattle.reader.proofs.Capacity.{sealed_frames}
+use Rattle.reader.proofs.Noting.{map_attrs}
 use Rattle.reader.proofs.Passes.{room, never_stuck, next_state, room_after, never_broken, small_place, next_noting, last_firsts}
 use Rattle.reader.proofs.Turns.{State, found_proper}
 use Rattle.reader.proofs.Places.{span_low, place_low}
