@@ -1,11 +1,10 @@
 -- A row of scopes that grows by an entry.
-use Rattle.std.proofs.Common.{◌≡◌, ℕ, zero, suc, ◌+◌, ◌-◌, ◌*◌, ◌<◌, ◌≤◌, Bool, true, false, cond, leb, ◌≢◌, List, [], ◌∷◌, length, get_or, set, Some, None, Option, sym, refl, ap, ◌∙◌, subst, arith, length-set, get_or-set_other, get_or-set_same, le-leb}
+use Rattle.std.proofs.Common.{◌≡◌, ℕ, zero, suc, ◌+◌, ◌-◌, ◌*◌, ◌<◌, ◌≤◌, Bool, cond, leb, ◌≢◌, List, ◌∷◌, length, get_or, set, Some, refl, ap, ◌∙◌, arith, length-set, get_or-set_other, get_or-set_same, le-leb}
 use Rattle.reader.specs.declared.scope.Sort.{Sort}
 use Rattle.reader.specs.declared.scope.Binder.{Binder}
 use Rattle.reader.specs.Scopes.{Binding, Scope}
 use Rattle.reader.specs.Rows.{binder_number, binder_at, part_of, entry_at, parent_at, scope_from, scope_of}
 use Rattle.reader.specs.Frames.{four_at}
-use Rattle.reader.specs.Annotate.{entered}
 use Rattle.reader.specs.Firsts.{EnteredRow}
 use Rattle.reader.proofs.Outward.{scope_step, parent_below}
 

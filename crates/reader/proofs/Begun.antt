@@ -1,5 +1,5 @@
 -- The second pass as it begins.
-use Rattle.std.proofs.Common.{◌≡◌, ℕ, suc, ◌+◌, ◌-◌, ◌*◌, ◌<◌, ◌≤◌, Bool, true, List, [], ◌∷◌, ◌++◌, length, Some, None, Option, Result, sym, refl, ap, ◌∙◌, subst, arith}
+use Rattle.std.proofs.Common.{◌≡◌, ℕ, suc, ◌*◌, ◌<◌, ◌≤◌, true, List, [], ◌∷◌, ◌++◌, length, None, Option, Result, sym, refl, ap, ◌∙◌, subst, arith}
 use Rattle.cores.specs.Meaning.{Word}
 use Rattle.reader.specs.declared.fault.ReadFault.{ReadFault}
 use Rattle.reader.specs.declared.notes.Firsts.{Firsts}
@@ -14,7 +14,6 @@ use Rattle.reader.specs.Rows.{scope_of}
 use Rattle.reader.specs.Frames.{symbols_of, attrs_of}
 use Rattle.reader.specs.Firsts.{start_attrs, ask_firsts, answered}
 use Rattle.reader.proofs.Checks.{sealed}
-use Rattle.reader.proofs.Capacity.{symbols_long}
 use Rattle.reader.proofs.Noting.{Noting, Small, map_attrs}
 use Rattle.reader.proofs.Turns.{State, begin}
 

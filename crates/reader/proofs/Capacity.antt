@@ -1,15 +1,13 @@
 -- A stack from which a text is read to its end is never deeper than what is left of the text.
-use Rattle.std.proofs.Common.{◌≡◌, ℕ, zero, suc, ◌+◌, ◌-◌, ◌*◌, ◌<◌, ◌≤◌, Bool, true, false, cond, List, [], ◌∷◌, ◌++◌, length, Some, None, Option, sym, refl, ap, ◌∙◌, subst, arith, length-append}
+use Rattle.std.proofs.Common.{◌≡◌, ℕ, zero, suc, ◌-◌, ◌<◌, ◌≤◌, true, false, List, [], ◌∷◌, ◌++◌, length, Some, None, Option, sym, refl, ap, ◌∙◌, subst, arith, length-append}
 use Rattle.tokens.specs.Lexer.{Next, at_end, token, no_token, next_token}
-use Rattle.tokens.specs.Pieces.{Piece}
-use Rattle.tokens.proofs.Walk.{Advance, advance}
+use Rattle.tokens.proofs.Walk.{advance}
 use Rattle.cores.specs.Meaning.{Word}
 use Rattle.reader.specs.declared.symbol.Symbol.{Symbol}
 use Rattle.reader.specs.Tokens.{Token, token_of}
-use Rattle.reader.specs.Streams.{Stream, ahead, finish, stream_from, stream_of, tokens_in, in_front}
-use Rattle.reader.specs.Reading.{Outcome, accepted, refused, reads, default_rank}
+use Rattle.reader.specs.Streams.{ahead, stream_from, stream_of, tokens_in, in_front}
+use Rattle.reader.specs.Reading.{accepted, reads, default_rank}
 use Rattle.reader.specs.Frames.{symbols_of, symbol_kept, attrs_of, attr_at}
-use Rattle.reader.specs.Annotate.{Attr}
 use Rattle.reader.proofs.Shapes.{Tree, print}
 use Rattle.reader.proofs.Checks.{sealed}
 use Rattle.reader.proofs.Choosing.{Alternative, choose}

@@ -1,12 +1,12 @@
 -- What holds of every row of the grammar: where the text's end may be read, which symbols lead to no rank, how many symbols follow.
-use Rattle.std.proofs.Common.{◌≡◌, ℕ, ◌≤◌, Bool, true, false, cond, eqb, leb, List, [], ◌∷◌, ◌++◌, length, Some, None, Option, sym, refl, ap, ◌∙◌, subst, arith, leb-true}
+use Rattle.std.proofs.Common.{◌≡◌, ℕ, ◌≤◌, Bool, true, false, cond, eqb, leb, List, [], ◌∷◌, ◌++◌, length, Some, None, sym, refl, ap, ◌∙◌, subst, arith, leb-true}
 use Rattle.reader.specs.declared.class.Class.{Class}
 use Rattle.reader.specs.declared.symbol.Symbol.{Symbol}
 use Rattle.reader.specs.declared.symbol.TypeContext.{TypeContext}
 use Rattle.reader.specs.declared.symbol.ModuleContext.{ModuleContext}
 use Rattle.reader.specs.Codes.{symbol_number}
 use Rattle.reader.specs.Reading.{is_rank_value}
-use Rattle.reader.specs.Grammar.{Row, number, find, rows, expand}
+use Rattle.reader.specs.Grammar.{Row, find, rows, expand}
 use Rattle.reader.proofs.Choosing.{same}
 use Rattle.reader.proofs.Loads.{same_class}
 

@@ -2,13 +2,11 @@
 use Rattle.std.proofs.Common.{◌≡◌, ℕ, Bool, true, false, cond, eqb, List, [], ◌∷◌, map, Some, None, Option, sym, refl, ap, ◌∙◌, subst, arith}
 use Rattle.reader.specs.declared.class.Class.{Class}
 use Rattle.reader.specs.declared.symbol.Symbol.{Symbol}
-use Rattle.reader.specs.declared.symbol.TypeContext.{TypeContext}
-use Rattle.reader.specs.declared.symbol.ModuleContext.{ModuleContext}
 use Rattle.reader.specs.Tokens.{Token, class_of}
-use Rattle.reader.specs.Grammar.{Row, ◌⇒◌, number, find, rows, expand}
+use Rattle.reader.specs.Grammar.{◌⇒◌, number, find}
 use Rattle.reader.proofs.Loads.{Load, Loaded, whole, load, class_whole, whole_injective, same_class, class_same}
 use Rattle.reader.proofs.Shapes.{Tree, print}
-use Rattle.reader.proofs.Entries.{Trees, prints, Entry, entries, lift}
+use Rattle.reader.proofs.Entries.{Trees, prints, Entry, entries}
 use Rattle.reader.proofs.Theory as theory
 
 abbrev pub Alternative : Symbol → Token → Type 0

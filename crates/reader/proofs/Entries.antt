@@ -1,17 +1,16 @@
 -- The grammar's rows with the trees that they build: one entry for each row.
-use Rattle.std.proofs.Common.{◌≡◌, ℕ, Bool, true, false, cond, eqb, List, [], ◌∷◌, map, Some, None, Option, sym, refl, ap, ◌∙◌, subst}
+use Rattle.std.proofs.Common.{◌≡◌, ℕ, List, [], ◌∷◌, map, Some, None, Option, refl, ◌∙◌}
 use Rattle.tokens.specs.declared.token.Keyword.{Keyword}
 use Rattle.types.specs.Types.{Name}
 use Rattle.reader.specs.declared.class.Class.{Class}
 use Rattle.reader.specs.declared.symbol.Symbol.{Symbol}
 use Rattle.reader.specs.declared.symbol.TypeContext.{TypeContext}
 use Rattle.reader.specs.declared.symbol.ModuleContext.{ModuleContext}
-use Rattle.reader.specs.Tokens.{Token, keyword, lower, upper, class_of}
-use Rattle.reader.specs.Syntax.{LongName, ModulePath, TypeTree, TermTree, AtomTree, SignatureTree, SpecTrees, ModuleTree, ItemTrees, RankTree, UnitTree}
+use Rattle.reader.specs.Tokens.{Token, keyword, lower}
+use Rattle.reader.specs.Syntax.{LongName, ModulePath, TypeTree, TermTree, AtomTree, SignatureTree, SpecTrees, ModuleTree, ItemTrees}
 use Rattle.reader.specs.Print.{«open», print_type, print_specs, print_module, print_arguments, print_labels}
-use Rattle.reader.specs.Grammar.{Row, ◌⇒◌, number, find, rows, expand, after_type, after_module}
-use Rattle.reader.proofs.Loads.{Load, Loaded, whole, load, class_whole, whole_injective, same_class, class_same}
-use Rattle.reader.proofs.Shapes.{Tree, print, AfterType, AfterModule, print_type_end, print_module_end, print_definition}
+use Rattle.reader.proofs.Loads.{Load, whole}
+use Rattle.reader.proofs.Shapes.{Tree, print, print_type_end, print_module_end, print_definition}
 use Rattle.reader.proofs.Theory as theory
 
 abbrev pub Trees : List Symbol → Type 0
@@ -75,7 +74,7 @@ items_entries =
     ∷ record {
       first = Class.«Type»;
       after = Symbol.TypeItem ∷ [];
-      make = λ l ts. ItemTrees.definedType ts.0.0 ts.0.1.0 ts.0.1.1;
+      make = λ l ts. ItemTrees.defined_type ts.0.0 ts.0.1.0 ts.0.1.1;
       shown = λ l ts rest. refl;
     }
     ∷ record {
@@ -150,7 +149,7 @@ module_entries c =
     ∷ record {
       first = Class.Struct;
       after = Symbol.Items ∷ Symbol.Arguments c ∷ [];
-      make = λ l ts. (ModuleTree.structEnd ts.0 ts.1.0.0, ts.1.0.1);
+      make = λ l ts. (ModuleTree.struct_end ts.0 ts.1.0.0, ts.1.0.1);
       shown = λ l ts rest. refl;
     }
     ∷ record {
@@ -250,7 +249,7 @@ argument_end_entries =
 
 abbrev pub signature_entries : List (Entry Symbol.Signature)
 signature_entries =
-    record { first = Class.Sig; after = Symbol.Specs ∷ []; make = λ l ts. SignatureTree.sigEnd ts.0; shown = λ l ts rest. refl }
+    record { first = Class.Sig; after = Symbol.Specs ∷ []; make = λ l ts. SignatureTree.sig_end ts.0; shown = λ l ts rest. refl }
     ∷ record {
       first = Class.Functor;
       after = Symbol.Token Class.Open ∷ Symbol.SignatureParameter ∷ [];
@@ -271,8 +270,8 @@ signature_parameter_entries =
 
 -- a type in a signature, abstract or defined
 abbrev pub type_spec : Name → Option TypeTree → SpecTrees → SpecTrees
-type_spec t None more = SpecTrees.abstractType t more
-type_spec t (Some u) more = SpecTrees.definedType t u more
+type_spec t None more = SpecTrees.abstract_type t more
+type_spec t (Some u) more = SpecTrees.defined_type t u more
 
 pub type_spec_shown :
     (t : Name) (o : Option TypeTree) (more : SpecTrees) (rest : List Token) →

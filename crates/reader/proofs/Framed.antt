@@ -1,13 +1,12 @@
 -- Frames in words: what a push leaves.
-use Rattle.std.proofs.Common.{◌≡◌, ℕ, zero, suc, ◌+◌, ◌-◌, ◌*◌, ◌<◌, ◌≤◌, true, false, ◌≢◌, List, [], ◌∷◌, ◌++◌, length, get_or, drop, set, sym, refl, ap, ◌∙◌, subst, add-one, arith, length-set, get_or-set_other, get_or-set_same}
+use Rattle.std.proofs.Common.{◌≡◌, ℕ, zero, suc, ◌+◌, ◌-◌, ◌*◌, ◌<◌, ◌≤◌, ◌≢◌, List, [], ◌∷◌, ◌++◌, length, get_or, drop, set, sym, refl, ap, ◌∙◌, add-one, arith, length-set, get_or-set_other, get_or-set_same}
 use Rattle.std.proofs.lemmas.List.{drop_more}
-use Rattle.reader.specs.declared.class.Class.{Class}
 use Rattle.reader.specs.declared.scope.Inherit.{Inherit}
 use Rattle.reader.specs.declared.symbol.Symbol.{Symbol}
 use Rattle.reader.specs.Codes.{symbol_at, symbol_number}
 use Rattle.reader.specs.Notes.{Around}
-use Rattle.reader.specs.Annotate.{Attr, both, inherit, inherits}
-use Rattle.reader.specs.Frames.{attr_at, symbol_kept, symbols_of, attrs_of, five_at, four_at}
+use Rattle.reader.specs.Annotate.{Attr, inherit, inherits}
+use Rattle.reader.specs.Frames.{attr_at, symbol_kept, symbols_of, attrs_of, five_at}
 use Rattle.reader.proofs.StackWords.{symbol_back}
 
 -- a set does not reach another place

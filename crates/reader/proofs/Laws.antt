@@ -1,15 +1,15 @@
 -- Reading is what the grammar says: the laws of the reader over streams of tokens.
-use Rattle.std.proofs.Common.{◌≡◌, ℕ, Bool, true, false, cond, ◌⊎◌, List, [], ◌∷◌, ◌++◌, Some, None, Option, sym, refl, ap, ◌∙◌, subst, inl, inr, ⊎_elim, append_assoc, arith}
+use Rattle.std.proofs.Common.{◌≡◌, ℕ, Bool, true, false, cond, List, [], ◌∷◌, ◌++◌, Some, None, Option, sym, refl, ap, ◌∙◌, subst, append_assoc, arith}
 use Rattle.tokens.specs.Integers.{decimal}
 use Rattle.tokens.specs.declared.token.Mark.{Mark}
 use Rattle.reader.specs.declared.class.Class.{Class}
 use Rattle.reader.specs.declared.symbol.Symbol.{Symbol}
-use Rattle.reader.specs.Tokens.{Token, mark, keyword, lower, upper, integer, label0, label1, label2, operator0, operator1, operator2, operator3, text_end, class_of, is_rank}
-use Rattle.reader.specs.Syntax.{UnitTree, RankTree, SignatureTree}
-use Rattle.reader.specs.Print.{print_unit, print_rank, print_items, print_signature, print_signature_text}
+use Rattle.reader.specs.Tokens.{Token, mark, keyword, lower, upper, integer, label0, label1, label2, operator0, operator1, operator2, operator3, text_end, class_of}
+use Rattle.reader.specs.Syntax.{UnitTree, RankTree}
+use Rattle.reader.specs.Print.{print_unit, print_rank, print_items, print_signature_text}
 use Rattle.reader.specs.Grammar.{find, expand}
 use Rattle.reader.specs.Streams.{Stream, finish, broken, next, tokens_in, in_front}
-use Rattle.reader.specs.Reading.{Outcome, accepted, refused, default_rank, learn, is_rank_value, onward, ending, reads, unit_start, signature_start, rank_of, Begins, StandsAt, NeverGoesOn, FirstRefused, UnitOutcome, SignatureOutcome, UnitsAreRead, SignaturesAreRead, OneTree}
+use Rattle.reader.specs.Reading.{Outcome, accepted, refused, default_rank, learn, onward, ending, reads, unit_start, signature_start, rank_of, Begins, StandsAt, NeverGoesOn, FirstRefused, UnitOutcome, SignatureOutcome, UnitsAreRead, SignaturesAreRead, OneTree}
 use Rattle.reader.proofs.Shapes.{Tree, print}
 use Rattle.reader.proofs.Entries.{Trees, prints, entries}
 use Rattle.reader.proofs.Choosing.{choose, picked_rows, from_origin, same}
@@ -212,16 +212,16 @@ quiet_run :
 quiet_run ts [] τ vs rest r q e = ap (λ (x : List Token). rank_run τ x r) (sym e)
 quiet_run [] (s ∷ σ) τ vs rest r q e =
     let o = from s vs.0 in
-    absurd (theory.nil-cons Token Symbol Tree print choose from
-    (sym e ∙ theory.from-shown Token Symbol Tree print choose from s o.0 vs.0 o.1 (prints σ vs.1 rest)))
+    absurd (theory.nil_cons Token Symbol Tree print choose from
+    (sym e ∙ theory.from_shown Token Symbol Tree print choose from s o.0 vs.0 o.1 (prints σ vs.1 rest)))
 quiet_run (k ∷ ks) (s ∷ σ) τ vs rest r q e =
     let f = theory.begins Token Symbol Tree print choose from s vs.0 (prints σ vs.1 rest) k ks e in
-    let g = theory.begins-rest Token Symbol Tree print choose from s vs.0 (prints σ vs.1 rest) k ks f e in
+    let g = theory.begins_rest Token Symbol Tree print choose from s vs.0 (prints σ vs.1 rest) k ks f e in
     let α : List Symbol = f.way.after in
     let x : expand s (class_of k) ≡ Some α = sym (expand_is s k) ∙ ap (theory.afters Token Symbol Tree print) f.chosen in
     let ih = quiet_run ks (α ++ σ) τ (theory.join Token Symbol Tree print α σ f.parts vs.1) rest r
     (quiet_append α σ (quiet_after s (class_of k) α q.0 x) q.1)
-    (theory.prints-join Token Symbol Tree print α σ f.parts vs.1 rest ∙ g) in
+    (theory.prints_join Token Symbol Tree print α σ f.parts vs.1 rest ∙ g) in
     rank_step s (σ ++ τ) k ks r α x
     ∙ ap (λ (n : ℕ). rank_run (α ++ (σ ++ τ)) ks n) (learn_quiet s k r q.0)
     ∙ ap (λ (ρ : List Symbol). rank_run ρ ks r) (sym (append_assoc α σ τ))

@@ -1,5 +1,5 @@
 -- What an answer of reading tells.
-use Rattle.std.proofs.Common.{◌≡◌, ℕ, zero, suc, ◌+◌, ◌<◌, ◌≤◌, Bool, true, false, cond, eqb, leb, List, [], ◌∷◌, length, Some, None, Ok, Err, Option, Result, sym, refl, ap, ◌∙◌, subst, arith, eq-eqb, le-leb, leb-false, leb-true}
+use Rattle.std.proofs.Common.{◌≡◌, ℕ, zero, suc, ◌≤◌, Bool, true, false, cond, eqb, leb, List, [], ◌∷◌, length, Some, None, Ok, Err, Option, Result, sym, refl, ap, ◌∙◌, subst, arith, eq-eqb, le-leb, leb-false, leb-true}
 use borrow.Author.Tests.{eqb-false}
 use Rattle.reader.specs.declared.parse.Start.{Start}
 use Rattle.reader.specs.Annotate.{annotate, static_fault, first_where, is_too_deep, is_again, is_undeclared}
@@ -17,10 +17,10 @@ use Rattle.cores.specs.declared.interface.Found.{Found}
 use Rattle.cores.specs.declared.interface.Kind.{Kind}
 use Rattle.reader.specs.declared.fault.ReadFault.{ReadFault}
 use Rattle.reader.specs.declared.fault.ReadFault.TheVariants.{Scratch, TooLong, Syntax, TooDeep, Redeclared, Undeclared}
-use Rattle.reader.specs.Tokens.{Token, mark, keyword, lower, upper, integer, label0, label1, label2, operator0, operator1, operator2, operator3, text_end, token_of, name_token, word_token}
+use Rattle.reader.specs.Tokens.{Token, keyword, lower, upper, label2, operator3, text_end, token_of, name_token, word_token}
 use Rattle.reader.specs.Syntax.{UnitTree, RankTree, SignatureTree}
 use Rattle.reader.specs.Print.{print_unit, print_signature_text, equals, print_items, print_rank}
-use Rattle.reader.specs.Streams.{Stream, finish, broken, next, ahead, stream_from, stream_of, tokens_in, in_front}
+use Rattle.reader.specs.Streams.{Stream, ahead, stream_from, stream_of, tokens_in, in_front}
 use Rattle.reader.specs.Reading.{Outcome, accepted, refused, reads, unit_start, signature_start, default_rank, rank_of, StandsAt, UnitOutcome, SignatureOutcome}
 use Rattle.reader.specs.Answers.{Heading, upper_piece, upper_at, behind_first, name_in, heading_of, unit_read, signature_read, asked, unit_answer, signature_answer, UnitMeaning, SignatureMeaning, UnitStatic, SignatureStatic, scratch_words, text_limit}
 use Rattle.reader.proofs.Laws.{units_are_read, signatures_are_read}

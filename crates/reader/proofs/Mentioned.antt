@@ -1,19 +1,19 @@
 -- The units that a text names, as the reader finds them.
-use Rattle.std.proofs.Common.{◌≡◌, ℕ, suc, ◌≤◌, Bool, true, false, cond, ◌&&◌, eqb, leb, List, [], ◌∷◌, length, Some, None, Ok, Err, Option, Result, sym, refl, ap, ◌∙◌, subst, arith, eq-eqb, le-leb, leb-false}
+use Rattle.std.proofs.Common.{◌≡◌, ℕ, suc, ◌≤◌, Bool, true, false, cond, eqb, leb, List, length, Ok, Err, Option, Result, sym, refl, ap, ◌∙◌, subst, leb-false}
 use borrow.Author.Tests.{eqb-false}
 use Rattle.types.specs.Types.{Name}
 use Rattle.cores.specs.Meaning.{Word}
 use Rattle.reader.specs.declared.fault.ReadFault.{ReadFault}
-use Rattle.reader.specs.declared.fault.ReadFault.TheVariants.{Scratch, TooLong, Syntax}
+use Rattle.reader.specs.declared.fault.ReadFault.TheVariants.{Scratch, TooLong}
 use Rattle.reader.specs.declared.parse.Start.{Start}
-use Rattle.reader.specs.Streams.{Stream, finish, broken, next, stream_of}
+use Rattle.reader.specs.Streams.{stream_of}
 use Rattle.reader.specs.Reading.{Outcome, accepted, refused, reads, unit_start, default_rank, UnitOutcome}
 use Rattle.reader.specs.Parsing.{outcome}
 use Rattle.reader.specs.Notes.{Note, notes_unit}
-use Rattle.reader.specs.Annotate.{annotate, name_of, is_unit, names_unit, first_where, with_places}
-use Rattle.reader.specs.Answers.{asked, scratch_words, text_limit}
+use Rattle.reader.specs.Annotate.{annotate, names_unit, first_where}
+use Rattle.reader.specs.Answers.{scratch_words, text_limit}
 use Rattle.reader.specs.Firsts.{start_attrs}
-use Rattle.reader.specs.Mentions.{mentions_in, first_from, name_from, mention_read, mention_answer, MentionMeaning}
+use Rattle.reader.specs.Mentions.{first_from, name_from, mention_read, mention_answer, MentionMeaning}
 use Rattle.reader.proofs.Laws.{units_are_read}
 use Rattle.reader.proofs.Means.{asked_in, outcome_err, outcome_ok}
 use Rattle.reader.proofs.Noted.{unit_annotated}

@@ -1,5 +1,5 @@
 -- The notes that a reader finds are those of the trees.
-use Rattle.std.proofs.Common.{◌≡◌, ℕ, Bool, true, false, cond, List, [], ◌∷◌, ◌++◌, map, Some, None, Option, sym, refl, ap, ◌∙◌, subst, arith}
+use Rattle.std.proofs.Common.{◌≡◌, ℕ, Bool, cond, List, [], ◌∷◌, ◌++◌, map, Some, None, Option, sym, refl, ap, ◌∙◌, arith}
 use Rattle.types.specs.Types.{Name}
 use Rattle.reader.specs.declared.class.Class.{Class}
 use Rattle.reader.specs.declared.scope.Sort.{Sort}
@@ -8,19 +8,19 @@ use Rattle.reader.specs.declared.scope.Inherit.{Inherit}
 use Rattle.reader.specs.declared.symbol.Symbol.{Symbol}
 use Rattle.reader.specs.declared.symbol.TypeContext.{TypeContext}
 use Rattle.reader.specs.declared.symbol.ModuleContext.{ModuleContext}
-use Rattle.reader.specs.Tokens.{Token, text_end, class_of}
-use Rattle.reader.specs.Syntax.{LongName, ModulePath, TypeTree, TermTree, AtomTree, SignatureTree, SpecTrees, ModuleTree, ItemTrees, RankTree, UnitTree}
+use Rattle.reader.specs.Tokens.{Token, class_of}
+use Rattle.reader.specs.Syntax.{ModulePath, TypeTree, SignatureTree, SpecTrees, ModuleTree, UnitTree}
 use Rattle.reader.specs.Grammar.{expand, find, ◌⇒◌}
 use Rattle.reader.specs.Scopes.{Scope}
 use Rattle.reader.specs.Streams.{Stream, finish, broken, next, tokens_in, in_front}
-use Rattle.reader.specs.Notes.{Note, Around, deeper, scoped, entering, with, outermost, plain, naming, notes_tail, notes_long_name, notes_names, notes_path, notes_labels, notes_type, notes_term, notes_atom, notes_signature, notes_specs, notes_arguments, notes_module, notes_items, notes_rank, notes_unit, notes_signature_text}
+use Rattle.reader.specs.Notes.{Note, Around, deeper, scoped, entering, with, outermost, plain, naming, notes_tail, notes_names, notes_path, notes_labels, notes_type, notes_term, notes_atom, notes_signature, notes_specs, notes_arguments, notes_module, notes_items, notes_rank, notes_unit, notes_signature_text}
 use Rattle.reader.specs.Annotate.{Attr, both, around, note_at, name_of, rules, introduces, entered, inherit, inherits, handed, top_of, below_top, proceed, annotate, with_places}
 use Rattle.reader.specs.Print.{print_unit, print_signature_text}
 use Rattle.reader.specs.Reading.{unit_start, signature_start}
 use Rattle.reader.proofs.Loads.{Load, whole, class_whole, class_same}
 use Rattle.reader.proofs.Shapes.{Tree, print, AfterType, AfterModule}
 use Rattle.reader.proofs.Entries.{Trees, prints, Entry, entries, closed, enclosed, type_spec}
-use Rattle.reader.proofs.Choosing.{choose, In, here, there, Origin}
+use Rattle.reader.proofs.Choosing.{In, here, there, Origin}
 use Rattle.reader.proofs.Origins.{origin, entries_rows}
 use Rattle.reader.proofs.Theory as theory
 
@@ -300,7 +300,7 @@ annotated (next k p st) (s ∷ σ) attrs vs e =
     let c : class_of k ≡ o.entry.first = ap class_of f.0 ∙ class_whole o.entry.first o.holds in
     let ih = annotated st (α ++ σ) (handed s o.entry.first (top_of attrs) (name_of k) α ++ below_top attrs)
     (theory.join Token Symbol Tree print α σ o.parts vs.1)
-    (f.1 ∙ ap Some (sym (theory.prints-join Token Symbol Tree print α σ o.parts vs.1 []))) in
+    (f.1 ∙ ap Some (sym (theory.prints_join Token Symbol Tree print α σ o.parts vs.1 []))) in
     let j = notes_join α σ (rules s o.entry.first) (top_of attrs) (around s o.entry.first (top_of attrs))
     (entered (introduces s o.entry.first) (name_of k) (around s o.entry.first (top_of attrs)).scope) (below_top attrs) o.parts vs.1 [] in
     next_step s σ attrs k p st o.entry.first α c (table_is s vs.0 o)

@@ -1,21 +1,20 @@
 -- The turns of the second pass.
-use Rattle.std.proofs.Common.{◌≡◌, ℕ, zero, suc, ◌+◌, ◌-◌, ◌*◌, ◌<◌, ◌≤◌, Bool, true, false, cond, eqb, ltb, List, [], ◌∷◌, ◌++◌, map, length, Some, None, Option, sym, refl, ap, ◌∙◌, subst, arith}
-use Rattle.tokens.specs.Lexer.{Next, at_end, token, no_token, next_token}
+use Rattle.std.proofs.Common.{◌≡◌, ℕ, zero, suc, ◌+◌, ◌*◌, ◌<◌, ◌≤◌, Bool, true, false, cond, List, [], ◌∷◌, ◌++◌, length, Some, None, Option, sym, refl, ap, ◌∙◌, subst, arith}
+use Rattle.tokens.specs.Lexer.{Next, at_end, token, next_token}
 use Rattle.tokens.specs.Pieces.{Piece}
-use Rattle.tokens.proofs.Walk.{Advance, advance}
+use Rattle.tokens.proofs.Walk.{advance}
 use Rattle.types.specs.Types.{Name}
 use Rattle.cores.specs.Meaning.{Word}
 use Rattle.reader.specs.declared.class.Class.{Class}
 use Rattle.reader.specs.declared.notes.Firsts.{Firsts}
-use Rattle.reader.specs.declared.scope.Binder.{Binder}
 use Rattle.reader.specs.declared.scope.Inherit.{Inherit}
 use Rattle.reader.specs.declared.symbol.Symbol.{Symbol}
-use Rattle.reader.specs.Tokens.{Token, text_end, class_of, token_of}
+use Rattle.reader.specs.Tokens.{Token, class_of, token_of}
 use Rattle.reader.specs.Grammar.{expand}
 use Rattle.reader.specs.Scopes.{Scope}
-use Rattle.reader.specs.Streams.{Stream, ahead, next, finish, stream_from, stream_of}
+use Rattle.reader.specs.Streams.{ahead, stream_from}
 use Rattle.reader.specs.Notes.{Note, Around}
-use Rattle.reader.specs.Annotate.{Attr, both, is_outside, around, extra, raised, declaring, again_of, head_kind, head_of, is_missing, name_of, note_at, rules, introduces, entered, inherit, inherits, handed, proceed, annotate, is_too_deep, is_again, is_undeclared, names_unit, first_where}
+use Rattle.reader.specs.Annotate.{Attr, both, is_outside, around, name_of, note_at, rules, introduces, entered, inherit, inherits, handed, proceed, annotate, is_too_deep, is_again, is_undeclared, names_unit, first_where}
 use Rattle.reader.specs.Rows.{scope_of, part_of}
 use Rattle.reader.specs.Firsts.{first_of, EnteredRow}
 

@@ -1,13 +1,13 @@
 -- Every tree of every symbol comes from one of the symbol's entries; every symbol has a tree.
-use Rattle.std.proofs.Common.{◌≡◌, ℕ, Bool, true, false, cond, List, [], ◌∷◌, map, Some, None, Option, sym, refl, ap, ◌∙◌, subst}
+use Rattle.std.proofs.Common.{◌≡◌, ℕ, Bool, true, false, List, [], ◌∷◌, map, Some, None, Option, refl, ap}
 use Rattle.reader.specs.declared.class.Class.{Class}
 use Rattle.reader.specs.declared.symbol.Symbol.{Symbol}
 use Rattle.reader.specs.declared.symbol.TypeContext.{TypeContext}
 use Rattle.reader.specs.declared.symbol.ModuleContext.{ModuleContext}
-use Rattle.reader.specs.Tokens.{Token, class_of, is_rank}
-use Rattle.reader.specs.Syntax.{LongName, ModulePath, TypeTree, TermTree, AtomTree, SignatureTree, SpecTrees, ModuleTree, ItemTrees, RankTree, UnitTree}
-use Rattle.reader.specs.Grammar.{Row, ◌⇒◌, rows}
-use Rattle.reader.proofs.Loads.{Load, Digits}
+use Rattle.reader.specs.Tokens.{Token, is_rank}
+use Rattle.reader.specs.Syntax.{LongName, ModulePath, TypeTree, TermTree, AtomTree, SignatureTree, SpecTrees, ModuleTree, ItemTrees, RankTree}
+use Rattle.reader.specs.Grammar.{◌⇒◌, rows}
+use Rattle.reader.proofs.Loads.{Load}
 use Rattle.reader.proofs.Shapes.{Tree, print, AfterType, AfterModule}
 use Rattle.reader.proofs.Entries.{Trees, Entry, entries, lift, items_entries, specs_entries, module_end_entries, type_end_entries, atom_entries, arguments_entries, token_entries}
 use Rattle.reader.proofs.Choosing.{In, here, there, same, Origin}
@@ -54,14 +54,14 @@ at {e = e} i l ts = record { entry = e; is_in = i; holds = l; parts = ts; made =
 
 origin_items : (t : ItemTrees) → Origin Symbol.Items items_entries t
 origin_items ItemTrees.done = at here tt tt
-origin_items (ItemTrees.definedType x u more) = at (there refl here) tt ((x, (u, more)), tt)
+origin_items (ItemTrees.defined_type x u more) = at (there refl here) tt ((x, (u, more)), tt)
 origin_items (ItemTrees.value x e more) = at (there refl (there refl here)) tt ((x, (e, more)), tt)
 origin_items (ItemTrees.submodule x m more) = at (there refl (there refl (there refl here))) tt ((x, (m, more)), tt)
 
 origin_specs : (t : SpecTrees) → Origin Symbol.Specs specs_entries t
 origin_specs SpecTrees.done = at here tt tt
-origin_specs (SpecTrees.abstractType x more) = at (there refl here) tt ((x, (None, more)), tt)
-origin_specs (SpecTrees.definedType x u more) = at (there refl here) tt ((x, (Some u, more)), tt)
+origin_specs (SpecTrees.abstract_type x more) = at (there refl here) tt ((x, (None, more)), tt)
+origin_specs (SpecTrees.defined_type x u more) = at (there refl here) tt ((x, (Some u, more)), tt)
 origin_specs (SpecTrees.value x u more) = at (there refl (there refl here)) tt ((x, (u, more)), tt)
 origin_specs (SpecTrees.submodule x s more) = at (there refl (there refl (there refl here))) tt ((x, (s, more)), tt)
 
@@ -96,7 +96,7 @@ origin_term (TermTree.atom a) =
     (behind _ _ _ (refl, (refl, (refl, (refl, (refl, (refl, (refl, tt))))))) (behind _ _ _ (refl, (refl, (refl, (refl, (refl, (refl, tt)))))) o)))
 
 origin_signature : (t : SignatureTree) → Origin Symbol.Signature (entries Symbol.Signature) t
-origin_signature (SignatureTree.sigEnd ss) = at here tt (ss, tt)
+origin_signature (SignatureTree.sig_end ss) = at here tt (ss, tt)
 origin_signature (SignatureTree.functor x p r) = at (there refl here) tt (tt, ((x, (p, r)), tt))
 
 origin_type_spec_end : (o : Option TypeTree) (more : SpecTrees) → Origin Symbol.TypeSpecEnd (entries Symbol.TypeSpecEnd) (o, more)
@@ -135,7 +135,7 @@ origin_labels TypeContext.Bracketed (l ∷ ls) a = at here l ((ls, a), tt)
 origin_module : (c : ModuleContext) (m : ModuleTree) (a : AfterModule c) → Origin (Symbol.Module c) (entries (Symbol.Module c)) (m, a)
 origin_module c (ModuleTree.functor x s m) a = at here tt (tt, ((x, (s, (m, a))), tt))
 origin_module c (ModuleTree.path p ps) a = at (there refl here) p.first ((p.more, (ps, a)), tt)
-origin_module c (ModuleTree.structEnd is ps) a = at (there refl (there refl here)) tt (is, ((ps, a), tt))
+origin_module c (ModuleTree.struct_end is ps) a = at (there refl (there refl here)) tt (is, ((ps, a), tt))
 origin_module c (ModuleTree.bracket m ps) a = at (there refl (there refl (there refl here))) tt ((m, None), ((ps, a), tt))
 origin_module c (ModuleTree.ascribed m s ps) a = at (there refl (there refl (there refl here))) tt ((m, Some s), ((ps, a), tt))
 
@@ -290,10 +290,10 @@ some_path : ModulePath
 some_path = record { first = []; more = [] }
 
 some_module : ModuleTree
-some_module = ModuleTree.structEnd ItemTrees.done []
+some_module = ModuleTree.struct_end ItemTrees.done []
 
 some_signature : SignatureTree
-some_signature = SignatureTree.sigEnd SpecTrees.done
+some_signature = SignatureTree.sig_end SpecTrees.done
 
 some_after_type : (c : TypeContext) → AfterType c
 some_after_type TypeContext.Items = ItemTrees.done

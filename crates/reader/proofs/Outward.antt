@@ -1,10 +1,10 @@
 -- Looking outward through a scope, entry by entry, and scopes in a row that grows.
-use Rattle.std.proofs.Common.{◌≡◌, ℕ, zero, suc, ◌+◌, ◌-◌, ◌*◌, ◌<◌, ◌≤◌, Bool, true, false, cond, ◌&&◌, ◌||◌, leb, List, [], ◌∷◌, length, get_or, sym, refl, ap, ◌∙◌, subst, arith, leb-true}
+use Rattle.std.proofs.Common.{◌≡◌, ℕ, zero, suc, ◌+◌, ◌-◌, ◌*◌, ◌<◌, ◌≤◌, Bool, true, false, cond, ◌&&◌, ◌||◌, leb, List, ◌∷◌, get_or, sym, refl, ap, ◌∙◌, arith, leb-true}
 use Rattle.std.specs.Str.{bytes_eq}
 use Rattle.types.specs.Types.{Name}
 use Rattle.reader.specs.declared.scope.Sort.{Sort}
 use Rattle.reader.specs.declared.scope.Binder.{Binder}
-use Rattle.reader.specs.Scopes.{Binding, Scope, same_sort, Resolution, component, bound, nowhere, further, sought, seek, declares, is_declared, is_itself, is_component, is_sought}
+use Rattle.reader.specs.Scopes.{Scope, same_sort, Resolution, component, bound, nowhere, further, sought, seek, declares, is_declared, is_itself, is_component, is_sought}
 use Rattle.reader.specs.Rows.{entry_at, parent_at, scope_from, scope_of, is_nowhere}
 
 false_true : false ≡ true → ⊥

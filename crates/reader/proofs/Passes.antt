@@ -1,9 +1,9 @@
 -- One turn of the second pass, by what the code tells.
-use Rattle.std.proofs.Common.{◌≡◌, ℕ, suc, ◌+◌, ◌-◌, ◌*◌, ◌<◌, ◌≤◌, Bool, true, false, cond, ◌&&◌, ltb, leb, List, [], ◌∷◌, ◌++◌, length, Some, None, Option, sym, refl, ap, ◌∙◌, subst, arith, length-append}
-use Rattle.tokens.specs.Lexer.{Next, at_end, token, no_token, next_token}
+use Rattle.std.proofs.Common.{◌≡◌, ℕ, suc, ◌+◌, ◌-◌, ◌*◌, ◌<◌, ◌≤◌, true, ◌&&◌, ltb, leb, List, [], ◌∷◌, ◌++◌, length, Some, None, Option, sym, refl, ap, ◌∙◌, subst, arith, length-append}
+use Rattle.tokens.specs.Lexer.{at_end, token, no_token, next_token}
 use Rattle.tokens.specs.Pieces.{Piece}
 use Rattle.tokens.specs.declared.lexer.Reason.{Reason}
-use Rattle.tokens.proofs.Walk.{Advance, advance}
+use Rattle.tokens.proofs.Walk.{advance}
 use Rattle.types.specs.Types.{Name}
 use Rattle.cores.specs.Meaning.{Word}
 use Rattle.reader.specs.declared.class.Class.{Class}
@@ -11,21 +11,21 @@ use Rattle.reader.specs.declared.frame.Place.{Place}
 use Rattle.reader.specs.declared.frame.Frame.{Frame}
 use Rattle.reader.specs.declared.notes.Firsts.{Firsts}
 use Rattle.reader.specs.declared.symbol.Symbol.{Symbol}
-use Rattle.reader.specs.Tokens.{Token, class_of, token_of}
+use Rattle.reader.specs.Tokens.{class_of, token_of}
 use Rattle.reader.specs.Grammar.{expand}
 use Rattle.reader.specs.Scopes.{Scope}
-use Rattle.reader.specs.Streams.{stream_from, stream_of}
-use Rattle.reader.specs.Reading.{Outcome, accepted, refused, reads, learn, ending, default_rank}
+use Rattle.reader.specs.Streams.{stream_of}
+use Rattle.reader.specs.Reading.{Outcome, accepted, refused, reads, learn, default_rank}
 use Rattle.reader.specs.Parsing.{is_accepted}
 use Rattle.reader.specs.Notes.{Note, Around}
-use Rattle.reader.specs.Annotate.{Attr, around, extra, raised, declaring, again_of, head_kind, head_of, is_missing, is_unit, names_unit, name_of, note_at, rules, introduces, inherits, annotate, is_too_deep, is_again, is_undeclared, first_where}
+use Rattle.reader.specs.Annotate.{Attr, around, extra, raised, declaring, again_of, head_kind, head_of, is_missing, is_unit, names_unit, name_of, note_at, rules, introduces, inherits, is_too_deep, is_again, is_undeclared, first_where}
 use Rattle.reader.specs.Rows.{scope_of, part_of}
 use Rattle.reader.specs.Frames.{placed, attr_of, attr_at, symbol_kept, symbols_of, attrs_of}
 use Rattle.reader.specs.Firsts.{first_of, span_of, EnteredRow}
 use Rattle.reader.proofs.Capacity.{not_deep, symbols_long, frames_top, attrs_top}
-use Rattle.reader.proofs.Noting.{Noting, FirstsAfter, map_around, map_attr, map_attrs, around_map, SmallPlace, SmallAttr, small_around, noting_on, noted_end, or_else}
+use Rattle.reader.proofs.Noting.{Noting, FirstsAfter, map_around, map_attr, around_map, SmallPlace, SmallAttr, small_around, noting_on, noted_end}
 use Rattle.reader.proofs.Places.{named_part}
-use Rattle.reader.proofs.Turns.{State, goes_on_lem, stops, breaks, ends}
+use Rattle.reader.proofs.Turns.{State, goes_on_lem, stops, breaks}
 
 -- the first places after a token, by what the code tells of them
 firsts_after :

@@ -1,18 +1,17 @@
 -- A token's name is the part of the text between its places; a stack is never deeper than what is left of the text.
-use Rattle.std.proofs.Common.{◌≡◌, ℕ, zero, suc, ◌+◌, ◌-◌, ◌*◌, ◌<◌, ◌≤◌, Bool, true, false, cond, ◌&&◌, eqb, leb, ◌⊎◌, List, [], ◌∷◌, ◌++◌, length, take, drop, Some, None, Option, sym, refl, ap, ◌∙◌, subst, inl, inr, ⊎_elim, add-zero, add-suc, arith, length-append, length-drop, le-leb}
+use Rattle.std.proofs.Common.{◌≡◌, ℕ, suc, ◌+◌, ◌-◌, ◌≤◌, Bool, true, false, cond, ◌&&◌, eqb, leb, ◌⊎◌, List, [], ◌∷◌, length, take, drop, Some, None, Option, sym, refl, ap, ◌∙◌, subst, inl, inr, ⊎_elim, arith, le-leb}
 use lib.Seq.{take-append_seam}
 use Rattle.std.proofs.lemmas.List.{drop-drop}
 use Rattle.tokens.specs.Bytes.{is_blank}
-use Rattle.tokens.specs.Lexer.{Next, at_end, token, no_token, Front, piece, none, found, next_from, next_token, token_front}
-use Rattle.tokens.specs.Pieces.{Piece, written, Begins}
+use Rattle.tokens.specs.Lexer.{token, Front, piece, none, found, next_from, next_token, token_front}
+use Rattle.tokens.specs.Pieces.{Piece, written}
 use Rattle.tokens.proofs.Sound.{token_stands}
-use Rattle.tokens.proofs.Walk.{Advance, advance}
+use Rattle.tokens.proofs.Walk.{advance}
 use Rattle.types.specs.Types.{Name}
 use Rattle.cores.specs.Meaning.{Word, lookup}
 use Rattle.cores.specs.declared.interface.Found.{Found}
 use Rattle.cores.specs.declared.interface.Kind.{Kind}
 use Rattle.reader.specs.declared.class.Class.{Class}
-use Rattle.reader.specs.declared.symbol.Symbol.{Symbol}
 use Rattle.tokens.specs.declared.token.Mark.{Mark}
 use Rattle.tokens.specs.declared.token.Keyword.{Keyword}
 use Rattle.reader.specs.Tokens.{Token, mark, keyword, lower, upper, integer, label0, label1, label2, operator0, operator1, operator2, operator3, text_end, class_of, token_of, name_token, word_token, mark_class, keyword_class, is_rank}

@@ -1,15 +1,13 @@
 -- The trees of each symbol, and how they are printed: those of the grammar, with what follows them.
-use Rattle.std.proofs.Common.{ℕ, List, [], ◌∷◌, Some, None, Option}
-use Rattle.tokens.specs.declared.token.Mark.{Mark}
+use Rattle.std.proofs.Common.{ℕ, List, ◌∷◌, Some, None, Option}
 use Rattle.tokens.specs.declared.token.Keyword.{Keyword}
 use Rattle.types.specs.Types.{Name}
-use Rattle.reader.specs.declared.class.Class.{Class}
 use Rattle.reader.specs.declared.symbol.Symbol.{Symbol}
 use Rattle.reader.specs.declared.symbol.TypeContext.{TypeContext}
 use Rattle.reader.specs.declared.symbol.ModuleContext.{ModuleContext}
-use Rattle.reader.specs.Tokens.{Token, mark, keyword, lower, upper, integer, label0, label1, label2, operator0, operator1, operator2, operator3, text_end}
+use Rattle.reader.specs.Tokens.{Token, keyword, lower, upper, integer, label2, text_end}
 use Rattle.reader.specs.Syntax.{LongName, ModulePath, TypeTree, TermTree, AtomTree, SignatureTree, SpecTrees, ModuleTree, ItemTrees, RankTree, UnitTree}
-use Rattle.reader.specs.Print.{«open», close, colon, equals, comma, dot, arrow, print_long_name, print_names, print_path, print_labels, print_type, print_term, print_atom, print_signature, print_specs, print_arguments, print_module, print_items, print_rank}
+use Rattle.reader.specs.Print.{close, colon, equals, comma, arrow, print_long_name, print_names, print_path, print_labels, print_type, print_term, print_atom, print_signature, print_specs, print_arguments, print_module, print_items, print_rank}
 use Rattle.reader.proofs.Loads.{Load, whole}
 
 -- what follows a type

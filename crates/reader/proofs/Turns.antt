@@ -1,24 +1,24 @@
 -- The turns of the reading loop.
-use Rattle.std.proofs.Common.{◌≡◌, ℕ, zero, suc, ◌+◌, ◌-◌, ◌*◌, ◌<◌, ◌≤◌, Bool, true, false, cond, eqb, List, [], ◌∷◌, ◌++◌, length, get_or, drop, Some, None, Option, sym, refl, ap, ◌∙◌, subst, arith}
+use Rattle.std.proofs.Common.{◌≡◌, ℕ, zero, suc, ◌+◌, ◌-◌, ◌<◌, ◌≤◌, Bool, true, false, cond, eqb, List, [], ◌∷◌, ◌++◌, length, get_or, drop, Some, None, Option, sym, refl, ap, ◌∙◌, subst, arith}
 use Rattle.tokens.specs.Lexer.{Next, at_end, token, no_token, next_token}
-use Rattle.tokens.specs.Pieces.{Piece, Proper, Begins, Cuts}
+use Rattle.tokens.specs.Pieces.{Piece, Proper, Cuts}
 use Rattle.tokens.specs.declared.lexer.Reason.{Reason}
 use Rattle.tokens.specs.declared.token.Mark.{Mark}
 use Rattle.tokens.specs.declared.token.Keyword.{Keyword}
-use Rattle.tokens.proofs.Walk.{Advance, advance}
+use Rattle.tokens.proofs.Walk.{advance}
 use Rattle.cores.specs.Meaning.{Word, lookup}
 use Rattle.cores.specs.declared.interface.Found.{Found}
 use Rattle.cores.specs.declared.interface.Kind.{Kind}
 use Rattle.reader.specs.declared.class.Class.{Class}
 use Rattle.reader.specs.declared.symbol.Symbol.{Symbol}
-use Rattle.reader.specs.Tokens.{Token, class_of, token_of, name_token, word_token, mark_class, keyword_class, integer, is_rank, label0, label1, label2, lower, operator0, operator1, operator2, operator3}
+use Rattle.reader.specs.Tokens.{Token, class_of, token_of, name_token, word_token, mark_class, keyword_class, is_rank, label2, lower, operator3}
 use Rattle.reader.specs.Grammar.{expand}
-use Rattle.reader.specs.Streams.{Stream, ahead, stream_from, stream_of}
-use Rattle.reader.specs.Reading.{Outcome, refused, reads, learn, onward, ending, default_rank}
+use Rattle.reader.specs.Streams.{ahead, stream_from, stream_of}
+use Rattle.reader.specs.Reading.{refused, reads, learn, onward, ending, default_rank}
 use Rattle.reader.specs.Codes.{symbol_at}
 use Rattle.reader.specs.Stacks.{stack_of}
 use Rattle.reader.proofs.Checks.{sealed, stays_sealed, short}
-use Rattle.reader.proofs.StackWords.{stack_top, sealed_deep}
+use Rattle.reader.proofs.StackWords.{stack_top}
 use Rattle.reader.proofs.Choosing.{same}
 
 -- what is left to be read gives what the whole text gives

@@ -1,7 +1,6 @@
 -- A head that names a unit is an upper name, which the lexer finds again at its place.
-use Rattle.std.proofs.Common.{◌≡◌, ℕ, zero, suc, ◌+◌, Bool, true, false, cond, ◌&&◌, leb, List, [], ◌∷◌, ◌++◌, length, get_or, drop, Some, None, Option, sym, refl, ap, ◌∙◌, subst, arith}
+use Rattle.std.proofs.Common.{◌≡◌, ℕ, zero, suc, ◌+◌, Bool, true, false, cond, ◌&&◌, leb, List, [], ◌∷◌, ◌++◌, length, drop, Some, None, Option, sym, refl, ap, ◌∙◌, arith}
 use Rattle.std.proofs.lemmas.List.{drop-drop}
-use Rattle.tokens.specs.Bytes.{is_blank}
 use Rattle.tokens.specs.Lexer.{Next, at_end, token, no_token, piece, found, next_from, next_token, token_front}
 use Rattle.tokens.specs.Pieces.{Piece, written}
 use Rattle.tokens.proofs.Unique.{not_blank}
@@ -15,14 +14,13 @@ use Rattle.reader.specs.Tokens.{Token, upper, class_of, token_of}
 use Rattle.reader.specs.Grammar.{expand}
 use Rattle.reader.specs.Scopes.{Scope, Resolution, component, bound, nowhere, seek}
 use Rattle.reader.specs.Streams.{Stream, finish, broken, next, ahead, stream_from}
-use Rattle.reader.specs.Notes.{Note, lower_head, upper_head}
+use Rattle.reader.specs.Notes.{Note, lower_head}
 use Rattle.reader.specs.Annotate.{Attr, is, around, head_kind, path_head, module_head, head_of, is_unit, names_unit, name_of, note_at, handed, top_of, below_top, proceed, annotate, first_where, with_places}
 use Rattle.reader.specs.Answers.{upper_at}
 use Rattle.reader.specs.Mentions.{mentions_in, first_from, name_from}
 use Rattle.reader.proofs.Choosing.{loaded}
-use Rattle.reader.proofs.Loads.{Loaded, whole}
 use Rattle.reader.proofs.Means.{upper_piece_lem}
-use Rattle.reader.proofs.Places.{Stand, stand_of}
+use Rattle.reader.proofs.Places.{stand_of}
 
 false_true : false ≡ true → ⊥
 false_true e = let z : ◌≡◌ {A = ℕ} 0 1 = cc in omega arith

@@ -13,7 +13,7 @@ use Rattle.reader.specs.declared.symbol.Symbol.{Symbol}
 use Rattle.reader.specs.Tokens.{Token, mark, keyword, lower, upper, integer, label0, label1, label2, operator0, operator1, operator2, operator3, text_end, class_of}
 use Rattle.reader.specs.Grammar.{number, expand}
 use Rattle.reader.specs.Streams.{Stream, finish, broken, next}
-use Rattle.reader.specs.Scopes.{Binding, Scope, Resolution, seek, is_declared}
+use Rattle.reader.specs.Scopes.{Scope, seek, is_declared}
 use Rattle.reader.specs.Notes.{Head, Note, Around, deeper, scoped, entering, outermost, lower_head, upper_head, none, own, unit, missing}
 
 -- what surrounds a symbol, and what surrounds that which follows a type or a module

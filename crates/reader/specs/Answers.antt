@@ -8,8 +8,8 @@ use Rattle.cores.specs.Meaning.{Word}
 use Rattle.reader.specs.declared.fault.ReadFault.{ReadFault}
 use Rattle.reader.specs.declared.fault.ReadFault.TheVariants.{Scratch, TooLong, Syntax, TooDeep, Redeclared, Undeclared}
 use Rattle.reader.specs.declared.read.UnitHeading.{UnitHeading}
-use Rattle.reader.specs.Tokens.{Token, keyword, upper}
-use Rattle.reader.specs.Streams.{Stream, stream_of, tokens_in}
+use Rattle.reader.specs.Tokens.{keyword, upper}
+use Rattle.reader.specs.Streams.{stream_of, tokens_in}
 use Rattle.reader.specs.declared.parse.Start.{Start}
 use Rattle.reader.specs.Annotate.{annotate, static_fault, with_places}
 use Rattle.reader.specs.Firsts.{answered, start_attrs}

@@ -6,7 +6,7 @@ use Rattle.reader.specs.declared.parse.Start.{Start}
 use Rattle.reader.specs.declared.scope.Binder.{Binder}
 use Rattle.reader.specs.declared.fault.ReadFault.TheVariants.{TooDeep, Redeclared, Undeclared}
 use Rattle.reader.specs.Annotate.{is, ask, entered, Attr, both}
-use Rattle.reader.specs.Notes.{Around, outermost}
+use Rattle.reader.specs.Notes.{outermost}
 use Rattle.reader.specs.Rows.{scope_of, part_of}
 use Rattle.reader.specs.Scopes.{Scope}
 

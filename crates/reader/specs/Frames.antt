@@ -3,7 +3,7 @@ use Rattle.std.specs.Prelude.{ℕ, zero, suc, ◌+◌, ◌*◌, List, [], ◌∷
 use Rattle.reader.specs.declared.frame.Place.{Place}
 use Rattle.reader.specs.declared.frame.Frame.{Frame}
 use Rattle.reader.specs.declared.symbol.Symbol.{Symbol}
-use Rattle.reader.specs.Codes.{symbol_at, symbol_number}
+use Rattle.reader.specs.Codes.{symbol_at}
 use Rattle.reader.specs.Notes.{Around}
 use Rattle.reader.specs.Annotate.{Attr}
 

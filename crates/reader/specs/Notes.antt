@@ -1,10 +1,10 @@
 -- What each token of a text is told: how many are open at it, whether it declares a name again, and what it is found to be if it
 -- is the head of a path. For each printer of the grammar there is one here of the same shape, which gives one note for each token.
-use Rattle.std.specs.Prelude.{ℕ, ◌+◌, Bool, true, false, List, [], ◌∷◌, Some, None, Option}
+use Rattle.std.specs.Prelude.{ℕ, ◌+◌, Bool, false, List, [], ◌∷◌, Some, None, Option}
 use Rattle.types.specs.Types.{Name}
 use Rattle.reader.specs.declared.scope.Sort.{Sort}
 use Rattle.reader.specs.declared.scope.Binder.{Binder}
-use Rattle.reader.specs.Scopes.{Binding, Scope, Resolution, component, bound, nowhere, seek, is_declared}
+use Rattle.reader.specs.Scopes.{Scope, Resolution, component, bound, nowhere, seek, is_declared}
 use Rattle.reader.specs.Syntax.{LongName, ModulePath, TypeTree, TermTree, AtomTree, SignatureTree, SpecTrees, ModuleTree, ItemTrees, RankTree, UnitTree}
 
 -- what a head is found to be: a component of a binder, a binder itself, a unit, or not declared
@@ -122,7 +122,7 @@ abbrev mutual
 abbrev mutual
   -- `sig` is open to its `end`, `functor` to the end of its result, where its parameter is known
   pub notes_signature : Around Scope → SignatureTree → List Note → List Note
-  notes_signature a (SignatureTree.sigEnd specs) rest =
+  notes_signature a (SignatureTree.sig_end specs) rest =
       plain (deeper 1 a) ∷ notes_specs (scoped 1 (with Binder.Itself [] a) a) specs rest
   notes_signature a (SignatureTree.functor x p r) rest =
       plain (deeper 1 a) ∷ plain (deeper 2 a) ∷ plain (deeper 2 a) ∷ plain (deeper 2 a)
@@ -132,9 +132,9 @@ abbrev mutual
   -- a spec is known to those behind it
   pub notes_specs : Around Scope → SpecTrees → List Note → List Note
   notes_specs a SpecTrees.done rest = plain a ∷ rest
-  notes_specs a (SpecTrees.abstractType t more) rest =
+  notes_specs a (SpecTrees.abstract_type t more) rest =
       plain a ∷ naming Sort.«Type» a t ∷ notes_specs (entering (with (Binder.Component Sort.«Type») t a) a) more rest
-  notes_specs a (SpecTrees.definedType t u more) rest =
+  notes_specs a (SpecTrees.defined_type t u more) rest =
       plain a ∷ naming Sort.«Type» a t ∷ plain a
       ∷ notes_type a u (notes_specs (entering (with (Binder.Component Sort.«Type») t a) a) more rest)
   notes_specs a (SpecTrees.value x t more) rest =
@@ -157,7 +157,7 @@ abbrev mutual
       ∷ notes_signature (deeper 2 a) s
       (plain (deeper 2 a) ∷ plain (deeper 1 a) ∷ notes_module (scoped 1 (with Binder.Parameter x a) a) m rest)
   notes_module a (ModuleTree.path p ps) rest = notes_path a p (notes_arguments a ps rest)
-  notes_module a (ModuleTree.structEnd is ps) rest =
+  notes_module a (ModuleTree.struct_end is ps) rest =
       plain (deeper 1 a) ∷ notes_items (scoped 1 (with Binder.Itself [] a) a) is (notes_arguments a ps rest)
   notes_module a (ModuleTree.bracket m ps) rest =
       plain (deeper 1 a) ∷ notes_module (deeper 1 a) m (plain (deeper 1 a) ∷ notes_arguments a ps rest)
@@ -169,7 +169,7 @@ abbrev mutual
   -- an item is known to those behind it
   pub notes_items : Around Scope → ItemTrees → List Note → List Note
   notes_items a ItemTrees.done rest = plain a ∷ rest
-  notes_items a (ItemTrees.definedType t u more) rest =
+  notes_items a (ItemTrees.defined_type t u more) rest =
       plain a ∷ naming Sort.«Type» a t ∷ plain a
       ∷ notes_type a u (notes_items (entering (with (Binder.Component Sort.«Type») t a) a) more rest)
   notes_items a (ItemTrees.value x e more) rest =

@@ -75,15 +75,15 @@ abbrev mutual
 abbrev mutual
   -- `sig specs end`, or `functor (X : signature) -> signature`
   pub print_signature : SignatureTree → List Token → List Token
-  print_signature (SignatureTree.sigEnd specs) rest = keyword Keyword.Sig ∷ print_specs specs rest
+  print_signature (SignatureTree.sig_end specs) rest = keyword Keyword.Sig ∷ print_specs specs rest
   print_signature (SignatureTree.functor x p r) rest =
       keyword Keyword.Functor ∷ «open» ∷ upper x ∷ colon ∷ print_signature p (close ∷ arrow ∷ print_signature r rest)
 
   -- `end`, or one of `type t`, `type t = type`, `val x : type`, `module X : signature`, and more specs
   pub print_specs : SpecTrees → List Token → List Token
   print_specs SpecTrees.done rest = keyword Keyword.End ∷ rest
-  print_specs (SpecTrees.abstractType t more) rest = keyword Keyword.«Type» ∷ lower t ∷ print_specs more rest
-  print_specs (SpecTrees.definedType t u more) rest =
+  print_specs (SpecTrees.abstract_type t more) rest = keyword Keyword.«Type» ∷ lower t ∷ print_specs more rest
+  print_specs (SpecTrees.defined_type t u more) rest =
       keyword Keyword.«Type» ∷ lower t ∷ equals ∷ print_type u (print_specs more rest)
   print_specs (SpecTrees.value x t more) rest = keyword Keyword.Val ∷ lower x ∷ colon ∷ print_type t (print_specs more rest)
   print_specs (SpecTrees.submodule x s more) rest =
@@ -100,7 +100,7 @@ abbrev mutual
   print_module (ModuleTree.functor x s m) rest =
       keyword Keyword.Functor ∷ «open» ∷ upper x ∷ colon ∷ print_signature s (close ∷ arrow ∷ print_module m rest)
   print_module (ModuleTree.path p ps) rest = print_path p (print_arguments ps rest)
-  print_module (ModuleTree.structEnd is ps) rest = keyword Keyword.Struct ∷ print_items is (print_arguments ps rest)
+  print_module (ModuleTree.struct_end is ps) rest = keyword Keyword.Struct ∷ print_items is (print_arguments ps rest)
   print_module (ModuleTree.bracket m ps) rest = «open» ∷ print_module m (close ∷ print_arguments ps rest)
   print_module (ModuleTree.ascribed m s ps) rest =
       «open» ∷ print_module m (colon ∷ print_signature s (close ∷ print_arguments ps rest))
@@ -108,7 +108,7 @@ abbrev mutual
   -- `end`, or one of `type t = type`, `let x = term`, `module X = module`, and more items
   pub print_items : ItemTrees → List Token → List Token
   print_items ItemTrees.done rest = keyword Keyword.End ∷ rest
-  print_items (ItemTrees.definedType t u more) rest =
+  print_items (ItemTrees.defined_type t u more) rest =
       keyword Keyword.«Type» ∷ lower t ∷ equals ∷ print_type u (print_items more rest)
   print_items (ItemTrees.value x e more) rest = keyword Keyword.Let ∷ lower x ∷ equals ∷ print_term e (print_items more rest)
   print_items (ItemTrees.submodule x m more) rest =

@@ -1,8 +1,6 @@
 -- Reading: a stack of the symbols that are still to be read, and the tokens of a text, one after the other.
 use Rattle.std.specs.Prelude.{◌≡◌, ℕ, Bool, cond, List, [], ◌∷◌, ◌++◌, Some, None, Option, ◌==◌}
 use Rattle.tokens.specs.Integers.{decimal}
-use Rattle.types.specs.Types.{Name}
-use Rattle.cores.specs.Meaning.{Word}
 use Rattle.reader.specs.declared.class.Class.{Class}
 use Rattle.reader.specs.declared.symbol.Symbol.{Symbol}
 use Rattle.reader.specs.Tokens.{Token, mark, keyword, lower, upper, integer, label0, label1, label2, operator0, operator1, operator2, operator3, text_end, class_of}

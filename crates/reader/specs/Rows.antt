@@ -1,6 +1,5 @@
 -- Scopes in words of memory: a row of entries, each with the number of the entry around it; 0 stands for no entry.
-use Rattle.std.specs.Prelude.{ℕ, zero, suc, ◌+◌, ◌-◌, ◌*◌, Bool, true, false, cond, ◌&&◌, List, [], ◌∷◌, length, ◌==◌, nat_le, slice_index, slice_range}
-use Rattle.types.specs.Types.{Name}
+use Rattle.std.specs.Prelude.{ℕ, zero, suc, ◌+◌, ◌*◌, Bool, true, false, cond, ◌&&◌, List, [], ◌∷◌, length, ◌==◌, nat_le, slice_index, slice_range}
 use Rattle.reader.specs.declared.scope.Sort.{Sort}
 use Rattle.reader.specs.declared.scope.Binder.{Binder}
 use Rattle.reader.specs.Scopes.{Binding, Scope, Resolution, component, bound, nowhere}

@@ -1,5 +1,5 @@
 -- Tokens as the grammar sees them: a core's words are told apart from names, and a text ends in a token of its own.
-use Rattle.std.specs.Prelude.{ℕ, Bool, true, false, cond, List, [], ◌∷◌, Some, None, Option, ◌==◌, nat_le}
+use Rattle.std.specs.Prelude.{ℕ, Bool, cond, List, [], ◌∷◌, Some, None, Option, ◌==◌, nat_le}
 use Rattle.tokens.specs.declared.token.Mark.{Mark}
 use Rattle.tokens.specs.declared.token.Keyword.{Keyword}
 use Rattle.tokens.specs.Integers.{decimal}

@@ -1,5 +1,5 @@
 -- What an optional reference holds.
-use Rattle.std.specs.Prelude.{List, Some, None, Option}
+use Rattle.std.specs.Prelude.{Some, None, Option}
 use Rattle.std.specs.Borrow.{Bor}
 
 -- the contents in place of the reference to them

@@ -1,4 +1,6 @@
 // Texts to syntax: exactly the texts of the grammar, with exact faults.
+#![tactic(auto)]
+
 mod attributes;
 pub mod class;
 mod classify;
@@ -14,4 +16,4 @@ mod stack;
 mod statics;
 pub mod symbol;
 mod table;
-mod types;
+mod type_grammar;

@@ -35,7 +35,7 @@ fn survey<C: Core>(
     requires text_len_bound { length text.now ≤ 4_000 }
     requires frames_len { length frames.old ≡ 32_768 }
     requires row_len { length row.old ≡ 32_768 }
-    requires default_rank_value { is_accepted (reads (start_of start) (stream_of C.Core.words text.now) default_rank) ≡ true }
+    requires accepted { is_accepted (reads (start_of start) (stream_of C.Core.words text.now) default_rank) ≡ true }
     ensures { SurveyOf asked (annotate (start_of start) (start_attrs start) (stream_of C.Core.words text.now)) result }
 {
     let outermost = Place {
@@ -122,7 +122,7 @@ pub fn ask_statics<C: Core>(
     requires text_len_bound { length text.now ≤ 4_000 }
     requires frames_len { length frames.old ≡ 32_768 }
     requires row_len { length row.old ≡ 32_768 }
-    requires default_rank_value { is_accepted (reads (start_of start) (stream_of C.Core.words text.now) default_rank) ≡ true }
+    requires accepted { is_accepted (reads (start_of start) (stream_of C.Core.words text.now) default_rank) ≡ true }
     ensures { result ≡ answered (static_fault (annotate (start_of start) (start_attrs start) (stream_of C.Core.words text.now))) }
 {
     let firsts = survey(core, text, frames, row, start, 0)?;
@@ -141,7 +141,7 @@ pub fn unit_mention<C: Core>(
     requires text_len_bound { length text.now ≤ 4_000 }
     requires frames_len { length frames.old ≡ 32_768 }
     requires row_len { length row.old ≡ 32_768 }
-    requires default_rank_value { is_accepted (reads unit_start (stream_of C.Core.words text.now) default_rank) ≡ true }
+    requires accepted { is_accepted (reads unit_start (stream_of C.Core.words text.now) default_rank) ≡ true }
     ensures { result ≡ Ok (first_where (names_unit asked) (annotate unit_start (start_attrs Start.«Unit») (stream_of C.Core.words text.now))) }
 {
     let firsts = survey(core, text, frames, row, Start::Unit, asked)?;

@@ -5,7 +5,7 @@ ghost use Rattle.reader.specs.View.{shown};
 
 use super::class::Class;
 use super::symbol::Symbol;
-use super::{grammar, types};
+use super::{grammar, type_grammar};
 
 // What has to follow a token of this class where this symbol is to be read; None where the symbol cannot begin so.
 // Constant time.
@@ -41,8 +41,8 @@ pub fn expand(symbol: Symbol, c: Class) -> Option<&'static [Symbol]>
         Symbol::Variable => grammar::variable(c),
         Symbol::Atom => grammar::atom(c),
         Symbol::PathEnd => grammar::path_end(c),
-        Symbol::Type(context) => types::type_start(context, c),
-        Symbol::Labels(context) => types::labels(context, c),
+        Symbol::Type(context) => type_grammar::type_start(context, c),
+        Symbol::Labels(context) => type_grammar::labels(context, c),
         Symbol::TypeEnd => grammar::type_end(c),
         Symbol::ArgumentName => grammar::argument_name(c),
     }

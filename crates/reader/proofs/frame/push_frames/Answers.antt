@@ -1,4 +1,4 @@
-use Rattle.std.proofs.Common.{◌≡◌, ℕ, ◌+◌, ◌-◌, ◌*◌, ◌<◌, ◌≤◌, List, ◌++◌, length, get_or, drop, sym, refl, ap, ◌∙◌, subst, arith}
+use Rattle.std.proofs.Common.{◌≡◌, ℕ, ◌+◌, ◌-◌, ◌*◌, ◌<◌, ◌≤◌, List, ◌++◌, length, get_or, drop, sym, refl, ap, ◌∙◌, arith}
 use Rattle.std.proofs.lemmas.List.{drop_all}
 use Rattle.reader.specs.declared.class.Class.{Class}
 use Rattle.reader.specs.declared.symbol.Symbol.{Symbol}
@@ -30,21 +30,21 @@ push-preserved c =
     let f : Attr ℕ = attr_of c.inherit.result in
     let is : f ≡ get_or handed (c.push.left - 1) (attr_at c.push.words 0) =
     c.inherit.ensures
-    ∙ ap (λ r. inherit r (attr_of c.args.frame) (placed c.args.place) c.args.new) c.rule-at.ensures
+    ∙ ap (λ r. inherit r (attr_of c.args.frame) (placed c.args.place) c.args.new) c.rule_at.ensures
     ∙ sym (inherits_at c.args.after.now c.args.rules.now (attr_of c.args.frame) (placed c.args.place) c.args.new
     (c.push.left - 1) (attr_at c.push.words 0) lt) in (
       omega arith,
       omega arith,
       frames_more c.args.after.now (symbols_of c.args.words.now c.args.depth) (Symbol.Token Class.Open) s c.push.left
-          (symbols_of c.write-frame.new.words (c.push.top + 1)) (symbols_of c.push.words c.push.top)
+          (symbols_of c.write_frame.new.words (c.push.top + 1)) (symbols_of c.push.words c.push.top)
           c.push-test.true i.1 refl
-          (ap (λ w. symbols_of w (c.push.top + 1)) c.write-frame.ensures
+          (ap (λ w. symbols_of w (c.push.top + 1)) c.write_frame.ensures
           ∙ symbols_push c.push.words c.push.top f.inner.opened f.inner.scope f.outer.opened f.outer.scope s room)
           i.2,
       frames_more handed (attrs_of c.args.words.now c.args.depth) (attr_at c.push.words 0) f c.push.left
-          (attrs_of c.write-frame.new.words (c.push.top + 1)) (attrs_of c.push.words c.push.top)
+          (attrs_of c.write_frame.new.words (c.push.top + 1)) (attrs_of c.push.words c.push.top)
           c.push-test.true (omega (arith, long, i.1)) is
-          (ap (λ w. attrs_of w (c.push.top + 1)) c.write-frame.ensures ∙ attrs_push c.push.words c.push.top _ f room)
+          (ap (λ w. attrs_of w (c.push.top + 1)) c.write_frame.ensures ∙ attrs_push c.push.words c.push.top _ f room)
           i.3,
     )
 

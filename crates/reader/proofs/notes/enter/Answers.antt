@@ -1,4 +1,4 @@
-use Rattle.std.proofs.Common.{◌≡◌, Some, Option, sym, subst, arith}
+use Rattle.std.proofs.Common.{Option, sym, subst, arith}
 use Rattle.reader.specs.declared.scope.Binder.{Binder}
 use Rattle.reader.specs.Firsts.{EnteredRow}
 use Rattle.reader.proofs.Appended.{appended}

@@ -1,4 +1,4 @@
-use Rattle.std.proofs.Common.{ℕ, suc, ◌+◌, ◌-◌, ◌*◌, ◌<◌, ◌≤◌, length}
+use Rattle.std.proofs.Common.{ℕ, suc, ◌-◌, ◌<◌, ◌≤◌, length}
 use Rattle.reader.specs.Annotate.{annotate}
 use Rattle.reader.specs.Frames.{symbols_of, attrs_of}
 use Rattle.reader.specs.Rows.{scope_of}
