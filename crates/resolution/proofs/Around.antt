@@ -10,7 +10,7 @@ use Rattle.reader.specs.Print.{print_long_name, print_labels, print_type, print_
 use Rattle.reader.specs.Scopes.{Scope, same_sort, Resolution, component, bound, nowhere, seek}
 use Rattle.reader.specs.Notes.{Note, Around, deeper, outermost, plain, lower_head, notes_long_name, notes_labels, notes_type, notes_term, notes_atom, notes_signature, notes_specs, notes_arguments, notes_module, notes_items, notes_rank, notes_unit, notes_signature_text}
 use Rattle.reader.specs.Annotate.{is_missing}
-use Rattle.rules.specs.Syntax.{TypeText, label_text1, SpecTexts, no_specs, Module, ascribed, Items, no_items}
+use Rattle.rules.specs.Syntax.{TypeText, label_text1, SpecTexts, no_specs, Module, Items, no_items}
 use Rattle.rules.proofs.Finding.{clash}
 use Rattle.resolution.specs.Places.{first, behind, beyond}
 use Rattle.resolution.specs.Heads.{Location, outward, past_variable, located, locate, binder_more, variable_more, binders, variables, upper_path, lower_path, dots, module_path_of, tail_path}
@@ -227,7 +227,7 @@ mutual
   signature_closed : (a : Around Scope) (s : SignatureTree) (ns : List Note) (ks : List Token) (ps : List ℕ) → Good a.scope →
       Clear missed (notes_signature a s ns) (print_signature s ks) →
       ClosedSignature (binders a.scope) (resolve_signature a.scope s ps) × Clear missed ns ks
-  signature_closed a (SignatureTree.sigEnd specs) ns ks ps g c =
+  signature_closed a (SignatureTree.sig_end specs) ns ks ps g c =
       specs_closed (binding Binder.Itself [] a) no_specs specs ns ks (behind ps) (tt, g) (omega arith) tt c.1
   signature_closed a (SignatureTree.functor x p r) ns ks ps g c =
       let d = signature_closed (deeper 2 a) p (plain (deeper 2 a) ∷ plain (deeper 1 a) ∷ notes_signature (binding Binder.Parameter x a) r ns)
@@ -239,9 +239,9 @@ mutual
       0 < binders a.scope → ClosedSpecs (binders a.scope) before → Clear missed (notes_specs a specs ns) (print_specs specs ks) →
       ClosedSpecs (binders a.scope) (resolve_specs a.scope before specs ps) × Clear missed ns ks
   specs_closed a before SpecTrees.done ns ks ps g w b c = (b, c.1)
-  specs_closed a before (SpecTrees.abstractType t more) ns ks ps g w b c =
+  specs_closed a before (SpecTrees.abstract_type t more) ns ks ps g w b c =
       specs_closed (knowing Sort.«Type» t a) _ more ns ks (beyond 2 ps) (w, g) w (b, tt) c.1.1
-  specs_closed a before (SpecTrees.definedType t u more) ns ks ps g w b c =
+  specs_closed a before (SpecTrees.defined_type t u more) ns ks ps g w b c =
       let us = notes_specs (knowing Sort.«Type» t a) more ns in
       specs_closed (knowing Sort.«Type» t a) _ more ns ks
       (past_type u (beyond 3 ps)) (w, g) w (b, type_closed a u us (print_specs more ks) (beyond 3 ps) g c.1.1.1)
@@ -279,7 +279,7 @@ mutual
     applied_closed a.scope args (first ps) _ _ g (path_closed p a.scope g),
     past_arguments missed a args ns ks (past_names missed a p.more (notes_arguments a args ns) (print_arguments args ks) c.1),
   )
-  module_closed a (ModuleTree.structEnd is args) ns ks ps g v c =
+  module_closed a (ModuleTree.struct_end is args) ns ks ps g v c =
       let d = items_closed (binding Binder.Itself [] a) no_items is (notes_arguments a args ns) (print_arguments args ks) (behind ps) (tt, g) v (omega arith) tt c.1 in (
         applied_closed a.scope args (first ps) _ _ g d.0,
         past_arguments missed a args ns ks d.1,
@@ -303,7 +303,7 @@ mutual
       variables a.scope ≡ 0 → 0 < binders a.scope → ClosedItems (binders a.scope) before → Clear missed (notes_items a is ns) (print_items is ks) →
       ClosedItems (binders a.scope) (resolve_items a.scope before is ps) × Clear missed ns ks
   items_closed a before ItemTrees.done ns ks ps g v w b c = (b, c.1)
-  items_closed a before (ItemTrees.definedType t u more) ns ks ps g v w b c =
+  items_closed a before (ItemTrees.defined_type t u more) ns ks ps g v w b c =
       let us = notes_items (knowing Sort.«Type» t a) more ns in
       items_closed (knowing Sort.«Type» t a) _ more ns ks
       (past_type u (beyond 3 ps)) (w, g) v w (b, type_closed a u us (print_items more ks) (beyond 3 ps) g c.1.1.1)

@@ -11,7 +11,7 @@ use Rattle.reader.specs.Streams.{Stream, finish, broken, next, tokens_in}
 use Rattle.reader.specs.Notes.{Note, Around, deeper, outermost, plain, lower_head, upper_head, upper_note, notes_tail, notes_long_name, notes_names, notes_path, notes_labels, notes_type, notes_term, notes_atom, notes_signature, notes_specs, notes_arguments, notes_module, notes_items, notes_rank, notes_unit, notes_signature_text}
 use Rattle.reader.specs.Annotate.{name_of, is_unit}
 use Rattle.reader.specs.Mentions.{mentions_in}
-use Rattle.rules.specs.Syntax.{TypeText, label_text0, label_text1, SpecTexts, no_specs, Module, ascribed, Items, no_items}
+use Rattle.rules.specs.Syntax.{TypeText, label_text0, label_text1, SpecTexts, no_specs, Module, Items, no_items}
 use Rattle.rules.specs.Naming.{path_names, type_names, signature_names, specs_names, term_names, module_names, items_names, unit_names}
 use Rattle.resolution.specs.Places.{places_in, first, behind, beyond}
 use Rattle.resolution.specs.Heads.{Location, locate, upper_path, lower_path, dots, module_path_of, tail_path}
@@ -188,7 +188,7 @@ mutual
   signature_named : (a : Around Scope) (s : SignatureTree) (ns : List Note) (ks : List Token) (ps : List ℕ) →
       named (notes_signature a s ns) (print_signature s ks) ps
       ≡ signature_names (resolve_signature a.scope s ps) ++ named ns ks (past_signature s ps)
-  signature_named a (SignatureTree.sigEnd specs) ns ks ps = specs_named (binding Binder.Itself [] a) no_specs specs ns ks (behind ps)
+  signature_named a (SignatureTree.sig_end specs) ns ks ps = specs_named (binding Binder.Itself [] a) no_specs specs ns ks (behind ps)
   signature_named a (SignatureTree.functor x p r) ns ks ps =
       joined _ _ _
       (signature_named (deeper 2 a) p (plain (deeper 2 a) ∷ plain (deeper 1 a) ∷ notes_signature (binding Binder.Parameter x a) r ns)
@@ -200,10 +200,10 @@ mutual
       specs_names before ++ named (notes_specs a specs ns) (print_specs specs ks) ps
       ≡ specs_names (resolve_specs a.scope before specs ps) ++ named ns ks (past_specs specs ps)
   specs_named a before SpecTrees.done ns ks ps = refl
-  specs_named a before (SpecTrees.abstractType t more) ns ks ps =
+  specs_named a before (SpecTrees.abstract_type t more) ns ks ps =
       joined (specs_names before) [] _ refl refl
       ∙ specs_named (knowing Sort.«Type» t a) _ more ns ks (beyond 2 ps)
-  specs_named a before (SpecTrees.definedType t u more) ns ks ps =
+  specs_named a before (SpecTrees.defined_type t u more) ns ks ps =
       joined (specs_names before) (type_names (resolve_type a.scope u (beyond 3 ps))) _ refl
       (type_named a u (notes_specs (knowing Sort.«Type» t a) more ns) (print_specs more ks) (beyond 3 ps))
       ∙ specs_named (knowing Sort.«Type» t a) _ more ns ks
@@ -242,7 +242,7 @@ mutual
   module_named a (ModuleTree.path p args) ns ks ps =
       path_named (notes_arguments a args ns) (print_arguments args ks) a p ps
       ∙ applied_named a args (first ps) _ ns ks _
-  module_named a (ModuleTree.structEnd is args) ns ks ps =
+  module_named a (ModuleTree.struct_end is args) ns ks ps =
       items_named (binding Binder.Itself [] a) no_items is (notes_arguments a args ns) (print_arguments args ks) (behind ps)
       ∙ applied_named a args (first ps) _ ns ks _
   module_named a (ModuleTree.bracket m args) ns ks ps =
@@ -261,7 +261,7 @@ mutual
       items_names before ++ named (notes_items a is ns) (print_items is ks) ps
       ≡ items_names (resolve_items a.scope before is ps) ++ named ns ks (past_items is ps)
   items_named a before ItemTrees.done ns ks ps = refl
-  items_named a before (ItemTrees.definedType t u more) ns ks ps =
+  items_named a before (ItemTrees.defined_type t u more) ns ks ps =
       joined (items_names before) (type_names (resolve_type a.scope u (beyond 3 ps))) _ refl
       (type_named a u (notes_items (knowing Sort.«Type» t a) more ns) (print_items more ks) (beyond 3 ps))
       ∙ items_named (knowing Sort.«Type» t a) _ more ns ks

@@ -10,7 +10,7 @@ use Rattle.reader.specs.Print.{print_signature, print_specs, print_arguments, pr
 use Rattle.reader.specs.Scopes.{Scope, same_sort, is_declared}
 use Rattle.reader.specs.Notes.{Note, Around, deeper, outermost, plain, notes_signature, notes_specs, notes_arguments, notes_module, notes_items, notes_rank, notes_unit, notes_signature_text}
 use Rattle.rules.specs.Signatures.{Sort as RuleSort, a_type, a_value, a_module, same_sort as same_rule_sort, sort_of, first_of, find, Declaration}
-use Rattle.rules.specs.Syntax.{SpecTexts, no_specs, more_specs, SpecText, abstract_spec, defined_spec, value_spec, module_spec, components_of, declaration_of, Module, ascribed, Items, no_items, more_items, Item, type_item, let_item, module_item}
+use Rattle.rules.specs.Syntax.{SpecTexts, no_specs, more_specs, SpecText, abstract_spec, defined_spec, value_spec, module_spec, components_of, declaration_of, Module, Items, no_items, more_items, Item, type_item, let_item, module_item}
 use Rattle.rules.specs.Rules.{item_sort, Undeclared}
 use Rattle.rules.proofs.Finding.{clash, same_sort_self, same_bytes_self}
 use Rattle.checker.specs.Written.{OnceSig, OnceSpecs, OnceModule, OnceItems}
@@ -78,7 +78,7 @@ again n = n.again
 mutual
   signature_once : (a : Around Scope) (s : SignatureTree) (ns : List Note) (ks : List Token) (ps : List ℕ) →
       Clear again (notes_signature a s ns) (print_signature s ks) → OnceSig (resolve_signature a.scope s ps) × Clear again ns ks
-  signature_once a (SignatureTree.sigEnd specs) ns ks ps c =
+  signature_once a (SignatureTree.sig_end specs) ns ks ps c =
       specs_once (binding Binder.Itself [] a) no_specs specs ns ks (behind ps) (λ s x e. refl) tt c.1
   signature_once a (SignatureTree.functor x p r) ns ks ps c =
       let d = signature_once (deeper 2 a) p (plain (deeper 2 a) ∷ plain (deeper 1 a) ∷ notes_signature (binding Binder.Parameter x a) r ns)
@@ -90,10 +90,10 @@ mutual
       CoversSpecs a.scope before → OnceSpecs before → Clear again (notes_specs a specs ns) (print_specs specs ks) →
       OnceSpecs (resolve_specs a.scope before specs ps) × Clear again ns ks
   specs_once a before SpecTrees.done ns ks ps h o c = (o, c.1)
-  specs_once a before (SpecTrees.abstractType t more) ns ks ps h o c =
+  specs_once a before (SpecTrees.abstract_type t more) ns ks ps h o c =
       specs_once (knowing Sort.«Type» t a) (more_specs before t abstract_spec) more ns ks (beyond 2 ps)
       (specs_cover a.scope before Sort.«Type» t abstract_spec refl h) (o, h Sort.«Type» t c.1.0, tt) c.1.1
-  specs_once a before (SpecTrees.definedType t u more) ns ks ps h o c =
+  specs_once a before (SpecTrees.defined_type t u more) ns ks ps h o c =
       let d = defined_spec (resolve_type a.scope u (beyond 3 ps)) in
       specs_once (knowing Sort.«Type» t a) (more_specs before t d) more ns ks (past_type u (beyond 3 ps))
       (specs_cover a.scope before Sort.«Type» t d refl h) (o, h Sort.«Type» t c.1.0, tt)
@@ -129,7 +129,7 @@ mutual
     applied_once a.scope args (first ps) _ _ tt,
     past_arguments again a args ns ks (past_names again a p.more (notes_arguments a args ns) (print_arguments args ks) c.1),
   )
-  module_once a (ModuleTree.structEnd is args) ns ks ps c =
+  module_once a (ModuleTree.struct_end is args) ns ks ps c =
       let d = items_once (binding Binder.Itself [] a) no_items is (notes_arguments a args ns) (print_arguments args ks) (behind ps) (λ s x e. tt) tt c.1 in (
         applied_once a.scope args (first ps) _ _ d.0,
         past_arguments again a args ns ks d.1,
@@ -153,7 +153,7 @@ mutual
       CoversItems a.scope before → OnceItems before → Clear again (notes_items a is ns) (print_items is ks) →
       OnceItems (resolve_items a.scope before is ps) × Clear again ns ks
   items_once a before ItemTrees.done ns ks ps h o c = (o, c.1)
-  items_once a before (ItemTrees.definedType t u more) ns ks ps h o c =
+  items_once a before (ItemTrees.defined_type t u more) ns ks ps h o c =
       let d = type_item (resolve_type a.scope u (beyond 3 ps)) in
       items_once (knowing Sort.«Type» t a) (more_items before t d) more ns ks (past_type u (beyond 3 ps))
       (items_cover a.scope before Sort.«Type» t d refl h) (o, h Sort.«Type» t c.1.0, tt)

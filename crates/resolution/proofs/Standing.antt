@@ -116,7 +116,7 @@ module _ (at : Token → ℕ → Type 0) where
   mutual
     signature_stands : (scope : Scope) (s : SignatureTree) (ks : List Token) (ps : List ℕ) → Beside at (print_signature s ks) ps →
         StandsSignature at (resolve_signature scope s ps) × Beside at ks (past_signature s ps)
-    signature_stands scope (SignatureTree.sigEnd specs) ks ps b =
+    signature_stands scope (SignatureTree.sig_end specs) ks ps b =
         let d = specs_stand (itself scope) no_specs specs ks (behind ps) tt b.1 in
         ((b.0, d.0), d.1)
     signature_stands scope (SignatureTree.functor x p r) ks ps b =
@@ -127,9 +127,9 @@ module _ (at : Token → ℕ → Type 0) where
     specs_stand : (scope : Scope) (before : SpecTexts) (specs : SpecTrees) (ks : List Token) (ps : List ℕ) → StandsSpecs at before →
         Beside at (print_specs specs ks) ps → StandsSpecs at (resolve_specs scope before specs ps) × Beside at ks (past_specs specs ps)
     specs_stand scope before SpecTrees.done ks ps h b = (h, b.1)
-    specs_stand scope before (SpecTrees.abstractType t more) ks ps h b =
+    specs_stand scope before (SpecTrees.abstract_type t more) ks ps h b =
         specs_stand (entry (Binder.Component Sort.«Type») t scope) _ more ks (beyond 2 ps) (h, tt) b.1.1
-    specs_stand scope before (SpecTrees.definedType t u more) ks ps h b =
+    specs_stand scope before (SpecTrees.defined_type t u more) ks ps h b =
         let d = type_stands scope u (print_specs more ks) (beyond 3 ps) b.1.1.1 in
         specs_stand (entry (Binder.Component Sort.«Type») t scope) _ more ks (past_type u (beyond 3 ps)) (h, d.0) d.1
     specs_stand scope before (SpecTrees.value x t more) ks ps h b =
@@ -160,7 +160,7 @@ module _ (at : Token → ℕ → Type 0) where
       BeginsAt at (module_place (resolve_module scope m ps)) (first ps)
   begins scope (ModuleTree.functor x s m) ks ps b = inl refl
   begins scope (ModuleTree.path p args) ks ps b = applied_place scope args (first ps) _ _ (inl refl)
-  begins scope (ModuleTree.structEnd is args) ks ps b = applied_place scope args (first ps) _ _ (inl refl)
+  begins scope (ModuleTree.struct_end is args) ks ps b = applied_place scope args (first ps) _ _ (inl refl)
   begins scope (ModuleTree.bracket m args) ks ps b = applied_place scope args (first ps) _ _ (inr b.0)
   begins scope (ModuleTree.ascribed m s args) ks ps b = applied_place scope args (first ps) _ _ (inl refl)
 
@@ -173,7 +173,7 @@ module _ (at : Token → ℕ → Type 0) where
         ((b.0, d.0, e.0), e.1)
     module_stands scope (ModuleTree.path p args) ks ps b =
         applied_stand scope args (first ps) _ ks _ (inl refl) (p.first, b.0) (behind_names p.more (print_arguments args ks) (behind ps) b.1)
-    module_stands scope (ModuleTree.structEnd is args) ks ps b =
+    module_stands scope (ModuleTree.struct_end is args) ks ps b =
         let d = items_stand (itself scope) no_items is (print_arguments args ks) (behind ps) tt b.1 in
         applied_stand scope args (first ps) _ ks _ (inl refl) (b.0, d.0) d.1
     module_stands scope (ModuleTree.bracket m args) ks ps b =
@@ -188,7 +188,7 @@ module _ (at : Token → ℕ → Type 0) where
     items_stand : (scope : Scope) (before : Items) (is : ItemTrees) (ks : List Token) (ps : List ℕ) → StandsItems at before →
         Beside at (print_items is ks) ps → StandsItems at (resolve_items scope before is ps) × Beside at ks (past_items is ps)
     items_stand scope before ItemTrees.done ks ps h b = (h, b.1)
-    items_stand scope before (ItemTrees.definedType t u more) ks ps h b =
+    items_stand scope before (ItemTrees.defined_type t u more) ks ps h b =
         let d = type_stands scope u (print_items more ks) (beyond 3 ps) b.1.1.1 in
         items_stand (entry (Binder.Component Sort.«Type») t scope) _ more ks (past_type u (beyond 3 ps)) (h, d.0) d.1
     items_stand scope before (ItemTrees.value x e more) ks ps h b =

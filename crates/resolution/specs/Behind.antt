@@ -49,14 +49,14 @@ abbrev mutual
 abbrev mutual
   -- `sig specs end`, or `functor (X : signature) -> signature`
   pub past_signature : SignatureTree → List ℕ → List ℕ
-  past_signature (SignatureTree.sigEnd specs) ps = past_specs specs (behind ps)
+  past_signature (SignatureTree.sig_end specs) ps = past_specs specs (behind ps)
   past_signature (SignatureTree.functor x p r) ps = past_signature r (beyond 2 (past_signature p (beyond 4 ps)))
 
   -- specs and their `end`
   pub past_specs : SpecTrees → List ℕ → List ℕ
   past_specs SpecTrees.done ps = behind ps
-  past_specs (SpecTrees.abstractType t more) ps = past_specs more (beyond 2 ps)
-  past_specs (SpecTrees.definedType t u more) ps = past_specs more (past_type u (beyond 3 ps))
+  past_specs (SpecTrees.abstract_type t more) ps = past_specs more (beyond 2 ps)
+  past_specs (SpecTrees.defined_type t u more) ps = past_specs more (past_type u (beyond 3 ps))
   past_specs (SpecTrees.value x t more) ps = past_specs more (past_type t (beyond 3 ps))
   past_specs (SpecTrees.submodule x s more) ps = past_specs more (past_signature s (beyond 3 ps))
 
@@ -70,7 +70,7 @@ abbrev mutual
   pub past_module : ModuleTree → List ℕ → List ℕ
   past_module (ModuleTree.functor x s m) ps = past_module m (beyond 2 (past_signature s (beyond 4 ps)))
   past_module (ModuleTree.path p args) ps = past_arguments args (past_path p ps)
-  past_module (ModuleTree.structEnd is args) ps = past_arguments args (past_items is (behind ps))
+  past_module (ModuleTree.struct_end is args) ps = past_arguments args (past_items is (behind ps))
   past_module (ModuleTree.bracket m args) ps = past_arguments args (behind (past_module m (behind ps)))
   past_module (ModuleTree.ascribed m s args) ps =
       past_arguments args (behind (past_signature s (behind (past_module m (behind ps)))))
@@ -78,6 +78,6 @@ abbrev mutual
   -- items and their `end`
   pub past_items : ItemTrees → List ℕ → List ℕ
   past_items ItemTrees.done ps = behind ps
-  past_items (ItemTrees.definedType t u more) ps = past_items more (past_type u (beyond 3 ps))
+  past_items (ItemTrees.defined_type t u more) ps = past_items more (past_type u (beyond 3 ps))
   past_items (ItemTrees.value x e more) ps = past_items more (past_term e (beyond 3 ps))
   past_items (ItemTrees.submodule x m more) ps = past_items more (past_module m (beyond 3 ps))

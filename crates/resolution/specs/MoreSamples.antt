@@ -17,7 +17,7 @@ Sample1 =
         first = (codes
             "B");
         more = [];
-      }) []) []) (SignatureTree.sigEnd SpecTrees.done) []) ItemTrees.done);
+      }) []) []) (SignatureTree.sig_end SpecTrees.done) []) ItemTrees.done);
       rank = None;
     })
     (record {
@@ -52,7 +52,7 @@ Sample3 =
         first = (codes
             "F");
         more = [];
-      }) ((record { first = (codes "A"); more = [] }) ∷ [])) ((record { first = (codes "B"); more = [] }) ∷ [])) (SignatureTree.sigEnd
+      }) ((record { first = (codes "A"); more = [] }) ∷ [])) ((record { first = (codes "B"); more = [] }) ∷ [])) (SignatureTree.sig_end
           SpecTrees.done) ((record { first = (codes "D"); more = ((codes "E") ∷ []) }) ∷ [])) ItemTrees.done);
       rank = None;
     })
@@ -85,7 +85,7 @@ Sample5 =
     UnitIs ml_words (codes "module U = struct type t = (int, (bool)) arrow end")
     (record {
       name = (codes "U");
-      items = (ItemTrees.definedType (codes "t") (TypeTree.both (TypeTree.constant 0 []) (TypeTree.bracket (TypeTree.constant 1 [])
+      items = (ItemTrees.defined_type (codes "t") (TypeTree.both (TypeTree.constant 0 []) (TypeTree.bracket (TypeTree.constant 1 [])
           []) 2 []) ItemTrees.done);
       rank = None;
     })
@@ -97,8 +97,8 @@ Sample6 =
     UnitIs c_words (codes "module U = struct type t = int ptr ptr type u = (t ptr) ptr type v = ((t, void) func) ptr end")
     (record {
       name = (codes "U");
-      items = (ItemTrees.definedType (codes "t") (TypeTree.constant 0 (2 ∷ 2 ∷ [])) (ItemTrees.definedType (codes "u")
-          (TypeTree.bracket (TypeTree.path (LongName.plain (codes "t")) (2 ∷ [])) (2 ∷ [])) (ItemTrees.definedType (codes "v") (TypeTree.bracket (TypeTree.both
+      items = (ItemTrees.defined_type (codes "t") (TypeTree.constant 0 (2 ∷ 2 ∷ [])) (ItemTrees.defined_type (codes "u")
+          (TypeTree.bracket (TypeTree.path (LongName.plain (codes "t")) (2 ∷ [])) (2 ∷ [])) (ItemTrees.defined_type (codes "v") (TypeTree.bracket (TypeTree.both
           (TypeTree.path (LongName.plain (codes "t")) []) (TypeTree.constant 1 []) 3 []) (2 ∷ [])) ItemTrees.done)));
       rank = None;
     })
@@ -151,7 +151,7 @@ Sample9 =
     UnitIs ml_words (codes "module U = struct type t = int let f = fun (t : t) -> fun (u : t) -> t end")
     (record {
       name = (codes "U");
-      items = (ItemTrees.definedType (codes "t") (TypeTree.constant 0 []) (ItemTrees.value (codes "f") (TermTree.function (codes
+      items = (ItemTrees.defined_type (codes "t") (TypeTree.constant 0 []) (ItemTrees.value (codes "f") (TermTree.function (codes
           "t") (TypeTree.path (LongName.plain (codes "t")) []) (TermTree.function (codes "u") (TypeTree.path (LongName.plain (codes "t")) []) (TermTree.atom
           (AtomTree.path (LongName.plain (codes "t")))))) ItemTrees.done));
       rank = None;
@@ -168,7 +168,7 @@ Sample10 =
     UnitIs ml_words (codes "module U = struct module F = functor (X : sig val y : X.t end) -> X end")
     (record {
       name = (codes "U");
-      items = (ItemTrees.submodule (codes "F") (ModuleTree.functor (codes "X") (SignatureTree.sigEnd (SpecTrees.value (codes "y")
+      items = (ItemTrees.submodule (codes "F") (ModuleTree.functor (codes "X") (SignatureTree.sig_end (SpecTrees.value (codes "y")
           (TypeTree.path (LongName.inside (codes "X") (LongName.plain (codes "t"))) []) SpecTrees.done)) (ModuleTree.path (record { first = (codes "X"); more = [] })
           [])) ItemTrees.done);
       rank = None;
@@ -185,9 +185,9 @@ Sample11 =
     UnitIs ml_words (codes "module U = struct type t = int module F = functor (X : sig type s end) -> functor (Y : sig val v : X.s end) -> struct let c = fun (z : X.s) -> choose true z Y.v let d = fun (w : t) -> w end end")
     (record {
       name = (codes "U");
-      items = (ItemTrees.definedType (codes "t") (TypeTree.constant 0 []) (ItemTrees.submodule (codes "F") (ModuleTree.functor
-          (codes "X") (SignatureTree.sigEnd (SpecTrees.abstractType (codes "s") SpecTrees.done)) (ModuleTree.functor (codes "Y") (SignatureTree.sigEnd
-          (SpecTrees.value (codes "v") (TypeTree.path (LongName.inside (codes "X") (LongName.plain (codes "s"))) []) SpecTrees.done)) (ModuleTree.structEnd
+      items = (ItemTrees.defined_type (codes "t") (TypeTree.constant 0 []) (ItemTrees.submodule (codes "F") (ModuleTree.functor
+          (codes "X") (SignatureTree.sig_end (SpecTrees.abstract_type (codes "s") SpecTrees.done)) (ModuleTree.functor (codes "Y") (SignatureTree.sig_end
+          (SpecTrees.value (codes "v") (TypeTree.path (LongName.inside (codes "X") (LongName.plain (codes "s"))) []) SpecTrees.done)) (ModuleTree.struct_end
           (ItemTrees.value (codes "c") (TermTree.function (codes "z") (TypeTree.path (LongName.inside (codes "X") (LongName.plain (codes "s"))) []) (TermTree.three 5
           (AtomTree.constant 3) (AtomTree.path (LongName.plain (codes "z"))) (AtomTree.path (LongName.inside (codes "Y") (LongName.plain (codes "v"))))))
           (ItemTrees.value (codes "d") (TermTree.function (codes "w") (TypeTree.path (LongName.plain (codes "t")) []) (TermTree.atom (AtomTree.path (LongName.plain
@@ -207,9 +207,9 @@ Sample11 =
 abbrev pub Sample12 : Type 0
 Sample12 =
     SignatureIs ml_words (codes "functor (X : functor (Y : sig type t end) -> sig val x : Y.t end) -> sig module Z : sig type u type v = u end val z : Z.u end")
-    (SignatureTree.functor (codes "X") (SignatureTree.functor (codes "Y") (SignatureTree.sigEnd (SpecTrees.abstractType (codes "t") SpecTrees.done))
-    (SignatureTree.sigEnd (SpecTrees.value (codes "x") (TypeTree.path (LongName.inside (codes "Y") (LongName.plain (codes "t"))) []) SpecTrees.done)))
-    (SignatureTree.sigEnd (SpecTrees.submodule (codes "Z") (SignatureTree.sigEnd (SpecTrees.abstractType (codes "u") (SpecTrees.definedType (codes "v")
+    (SignatureTree.functor (codes "X") (SignatureTree.functor (codes "Y") (SignatureTree.sig_end (SpecTrees.abstract_type (codes "t") SpecTrees.done))
+    (SignatureTree.sig_end (SpecTrees.value (codes "x") (TypeTree.path (LongName.inside (codes "Y") (LongName.plain (codes "t"))) []) SpecTrees.done)))
+    (SignatureTree.sig_end (SpecTrees.submodule (codes "Z") (SignatureTree.sig_end (SpecTrees.abstract_type (codes "u") (SpecTrees.defined_type (codes "v")
     (TypeTree.path (LongName.plain (codes "u")) []) SpecTrees.done))) (SpecTrees.value (codes "z") (TypeTree.path (LongName.inside (codes "Z") (LongName.plain
     (codes "u"))) []) SpecTrees.done))))
     (functor_text 0 (functor_text 13 (sig_text 26 (more_specs no_specs (codes "t") abstract_spec)) (sig_text 45 (more_specs no_specs (codes "x") (value_spec (path_text 57

@@ -80,7 +80,7 @@ abbrev mutual
 abbrev mutual
   -- a signature: a functor's parameter is known in its result, not in its own signature
   pub resolve_signature : Scope → SignatureTree → List ℕ → SignatureText
-  resolve_signature scope (SignatureTree.sigEnd specs) ps =
+  resolve_signature scope (SignatureTree.sig_end specs) ps =
       sig_text (first ps) (resolve_specs (itself scope) no_specs specs (behind ps))
   resolve_signature scope (SignatureTree.functor x p r) ps =
       functor_text (first ps) (resolve_signature scope p (beyond 4 ps))
@@ -89,9 +89,9 @@ abbrev mutual
   -- specs behind those that are resolved already; each is known to those behind it
   pub resolve_specs : Scope → SpecTexts → SpecTrees → List ℕ → SpecTexts
   resolve_specs scope before SpecTrees.done ps = before
-  resolve_specs scope before (SpecTrees.abstractType t more) ps =
+  resolve_specs scope before (SpecTrees.abstract_type t more) ps =
       resolve_specs (entry (Binder.Component Sort.«Type») t scope) (more_specs before t abstract_spec) more (beyond 2 ps)
-  resolve_specs scope before (SpecTrees.definedType t u more) ps =
+  resolve_specs scope before (SpecTrees.defined_type t u more) ps =
       resolve_specs (entry (Binder.Component Sort.«Type») t scope) (more_specs before t (defined_spec (resolve_type scope u (beyond 3 ps))))
       more (past_type u (beyond 3 ps))
   resolve_specs scope before (SpecTrees.value x t more) ps =
@@ -115,7 +115,7 @@ abbrev mutual
       (resolve_module (entry Binder.Parameter x scope) m (beyond 2 (past_signature s (beyond 4 ps))))
   resolve_module scope (ModuleTree.path p args) ps =
       applications scope (first ps) (module_path (first ps) (module_path_of scope p)) args (past_path p ps)
-  resolve_module scope (ModuleTree.structEnd is args) ps =
+  resolve_module scope (ModuleTree.struct_end is args) ps =
       applications scope (first ps) (struct (first ps) (resolve_items (itself scope) no_items is (behind ps))) args (past_items is (behind ps))
   resolve_module scope (ModuleTree.bracket m args) ps =
       applications scope (first ps) (resolve_module scope m (behind ps)) args (behind (past_module m (behind ps)))
@@ -128,7 +128,7 @@ abbrev mutual
   -- items behind those that are resolved already; each is known to those behind it
   pub resolve_items : Scope → Items → ItemTrees → List ℕ → Items
   resolve_items scope before ItemTrees.done ps = before
-  resolve_items scope before (ItemTrees.definedType t u more) ps =
+  resolve_items scope before (ItemTrees.defined_type t u more) ps =
       resolve_items (entry (Binder.Component Sort.«Type») t scope) (more_items before t (type_item (resolve_type scope u (beyond 3 ps))))
       more (past_type u (beyond 3 ps))
   resolve_items scope before (ItemTrees.value x e more) ps =

@@ -12,9 +12,9 @@ abbrev pub unit_tree2 : UnitTree
 unit_tree2 =
     record {
       name = (codes "U");
-      items = (ItemTrees.submodule (codes "A") (ModuleTree.ascribed (ModuleTree.structEnd (ItemTrees.definedType (codes "t")
-          (TypeTree.constant 0 []) (ItemTrees.value (codes "x") (TermTree.atom (AtomTree.literal (codes "1"))) ItemTrees.done)) []) (SignatureTree.sigEnd
-          (SpecTrees.abstractType (codes "t") (SpecTrees.value (codes "x") (TypeTree.path (LongName.plain (codes "t")) []) SpecTrees.done))) []) (ItemTrees.value
+      items = (ItemTrees.submodule (codes "A") (ModuleTree.ascribed (ModuleTree.struct_end (ItemTrees.defined_type (codes "t")
+          (TypeTree.constant 0 []) (ItemTrees.value (codes "x") (TermTree.atom (AtomTree.literal (codes "1"))) ItemTrees.done)) []) (SignatureTree.sig_end
+          (SpecTrees.abstract_type (codes "t") (SpecTrees.value (codes "x") (TypeTree.path (LongName.plain (codes "t")) []) SpecTrees.done))) []) (ItemTrees.value
           (codes "y") (TermTree.two 4 (AtomTree.path (LongName.inside (codes "A") (LongName.plain (codes "x")))) (AtomTree.literal (codes "1"))) ItemTrees.done));
       rank = None;
     }
@@ -24,7 +24,7 @@ abbrev pub unit_tree3 : UnitTree
 unit_tree3 =
     record {
       name = (codes "U");
-      items = (ItemTrees.submodule (codes "A") (ModuleTree.bracket (ModuleTree.structEnd (ItemTrees.definedType (codes "t")
+      items = (ItemTrees.submodule (codes "A") (ModuleTree.bracket (ModuleTree.struct_end (ItemTrees.defined_type (codes "t")
           (TypeTree.constant 0 []) (ItemTrees.value (codes "x") (TermTree.atom (AtomTree.literal (codes "1"))) ItemTrees.done)) []) []) (ItemTrees.value (codes "y")
           (TermTree.two 4 (AtomTree.path (LongName.inside (codes "A") (LongName.plain (codes "x")))) (AtomTree.literal (codes "1"))) ItemTrees.done));
       rank = None;
@@ -35,9 +35,9 @@ abbrev pub unit_tree4 : UnitTree
 unit_tree4 =
     record {
       name = (codes "U");
-      items = (ItemTrees.submodule (codes "A") (ModuleTree.ascribed (ModuleTree.structEnd (ItemTrees.definedType (codes "t")
-          (TypeTree.constant 0 []) (ItemTrees.value (codes "x") (TermTree.atom (AtomTree.literal (codes "1"))) ItemTrees.done)) []) (SignatureTree.sigEnd
-          (SpecTrees.abstractType (codes "t") (SpecTrees.value (codes "x") (TypeTree.path (LongName.plain (codes "t")) []) SpecTrees.done))) []) (ItemTrees.submodule
+      items = (ItemTrees.submodule (codes "A") (ModuleTree.ascribed (ModuleTree.struct_end (ItemTrees.defined_type (codes "t")
+          (TypeTree.constant 0 []) (ItemTrees.value (codes "x") (TermTree.atom (AtomTree.literal (codes "1"))) ItemTrees.done)) []) (SignatureTree.sig_end
+          (SpecTrees.abstract_type (codes "t") (SpecTrees.value (codes "x") (TypeTree.path (LongName.plain (codes "t")) []) SpecTrees.done))) []) (ItemTrees.submodule
           (codes "B") (ModuleTree.path (record { first = (codes "A"); more = [] }) []) (ItemTrees.value (codes "y") (TermTree.three 5 (AtomTree.constant 3)
           (AtomTree.path (LongName.inside (codes "A") (LongName.plain (codes "x")))) (AtomTree.path (LongName.inside (codes "B") (LongName.plain (codes "x")))))
           ItemTrees.done)));
@@ -49,10 +49,10 @@ abbrev pub unit_tree5 : UnitTree
 unit_tree5 =
     record {
       name = (codes "U");
-      items = (ItemTrees.submodule (codes "F") (ModuleTree.functor (codes "X") (SignatureTree.sigEnd SpecTrees.done)
-          (ModuleTree.ascribed (ModuleTree.structEnd (ItemTrees.definedType (codes "t") (TypeTree.constant 0 []) (ItemTrees.value (codes "x") (TermTree.atom
-          (AtomTree.literal (codes "1"))) ItemTrees.done)) []) (SignatureTree.sigEnd (SpecTrees.abstractType (codes "t") (SpecTrees.value (codes "x") (TypeTree.path
-          (LongName.plain (codes "t")) []) SpecTrees.done))) [])) (ItemTrees.submodule (codes "E") (ModuleTree.structEnd ItemTrees.done []) (ItemTrees.submodule
+      items = (ItemTrees.submodule (codes "F") (ModuleTree.functor (codes "X") (SignatureTree.sig_end SpecTrees.done)
+          (ModuleTree.ascribed (ModuleTree.struct_end (ItemTrees.defined_type (codes "t") (TypeTree.constant 0 []) (ItemTrees.value (codes "x") (TermTree.atom
+          (AtomTree.literal (codes "1"))) ItemTrees.done)) []) (SignatureTree.sig_end (SpecTrees.abstract_type (codes "t") (SpecTrees.value (codes "x") (TypeTree.path
+          (LongName.plain (codes "t")) []) SpecTrees.done))) [])) (ItemTrees.submodule (codes "E") (ModuleTree.struct_end ItemTrees.done []) (ItemTrees.submodule
           (codes "A") (ModuleTree.path (record { first = (codes "F"); more = [] }) ((record { first = (codes "E"); more = [] }) ∷ [])) (ItemTrees.submodule (codes
           "B") (ModuleTree.path (record { first = (codes "F"); more = [] }) ((record { first = (codes "E"); more = [] }) ∷ [])) (ItemTrees.value (codes "y")
           (TermTree.three 5 (AtomTree.constant 3) (AtomTree.path (LongName.inside (codes "A") (LongName.plain (codes "x")))) (AtomTree.path (LongName.inside (codes
@@ -65,9 +65,9 @@ abbrev pub unit_tree6 : UnitTree
 unit_tree6 =
     record {
       name = (codes "U");
-      items = (ItemTrees.submodule (codes "A") (ModuleTree.ascribed (ModuleTree.structEnd (ItemTrees.submodule (codes "N")
-          (ModuleTree.structEnd (ItemTrees.definedType (codes "u") (TypeTree.constant 0 []) ItemTrees.done) []) (ItemTrees.value (codes "y") (TermTree.atom
-          (AtomTree.literal (codes "1"))) ItemTrees.done)) []) (SignatureTree.sigEnd (SpecTrees.submodule (codes "N") (SignatureTree.sigEnd (SpecTrees.abstractType
+      items = (ItemTrees.submodule (codes "A") (ModuleTree.ascribed (ModuleTree.struct_end (ItemTrees.submodule (codes "N")
+          (ModuleTree.struct_end (ItemTrees.defined_type (codes "u") (TypeTree.constant 0 []) ItemTrees.done) []) (ItemTrees.value (codes "y") (TermTree.atom
+          (AtomTree.literal (codes "1"))) ItemTrees.done)) []) (SignatureTree.sig_end (SpecTrees.submodule (codes "N") (SignatureTree.sig_end (SpecTrees.abstract_type
           (codes "u") SpecTrees.done)) (SpecTrees.value (codes "y") (TypeTree.path (LongName.inside (codes "N") (LongName.plain (codes "u"))) []) SpecTrees.done)))
           []) ItemTrees.done);
       rank = None;
@@ -78,9 +78,9 @@ abbrev pub unit_tree7 : UnitTree
 unit_tree7 =
     record {
       name = (codes "U");
-      items = (ItemTrees.submodule (codes "A") (ModuleTree.ascribed (ModuleTree.structEnd (ItemTrees.submodule (codes "N")
-          (ModuleTree.structEnd (ItemTrees.definedType (codes "u") (TypeTree.constant 0 []) ItemTrees.done) []) (ItemTrees.value (codes "y") (TermTree.atom
-          (AtomTree.constant 3)) ItemTrees.done)) []) (SignatureTree.sigEnd (SpecTrees.submodule (codes "N") (SignatureTree.sigEnd (SpecTrees.abstractType (codes "u")
+      items = (ItemTrees.submodule (codes "A") (ModuleTree.ascribed (ModuleTree.struct_end (ItemTrees.submodule (codes "N")
+          (ModuleTree.struct_end (ItemTrees.defined_type (codes "u") (TypeTree.constant 0 []) ItemTrees.done) []) (ItemTrees.value (codes "y") (TermTree.atom
+          (AtomTree.constant 3)) ItemTrees.done)) []) (SignatureTree.sig_end (SpecTrees.submodule (codes "N") (SignatureTree.sig_end (SpecTrees.abstract_type (codes "u")
           SpecTrees.done)) (SpecTrees.value (codes "y") (TypeTree.path (LongName.inside (codes "N") (LongName.plain (codes "u"))) []) SpecTrees.done))) [])
           ItemTrees.done);
       rank = None;
@@ -91,10 +91,10 @@ abbrev pub unit_tree8 : UnitTree
 unit_tree8 =
     record {
       name = (codes "U");
-      items = (ItemTrees.submodule (codes "F") (ModuleTree.functor (codes "X") (SignatureTree.sigEnd (SpecTrees.abstractType (codes
-          "t") (SpecTrees.value (codes "x") (TypeTree.path (LongName.plain (codes "t")) []) SpecTrees.done))) (ModuleTree.structEnd (ItemTrees.value (codes "y")
+      items = (ItemTrees.submodule (codes "F") (ModuleTree.functor (codes "X") (SignatureTree.sig_end (SpecTrees.abstract_type (codes
+          "t") (SpecTrees.value (codes "x") (TypeTree.path (LongName.plain (codes "t")) []) SpecTrees.done))) (ModuleTree.struct_end (ItemTrees.value (codes "y")
           (TermTree.atom (AtomTree.path (LongName.inside (codes "X") (LongName.plain (codes "x"))))) ItemTrees.done) [])) (ItemTrees.submodule (codes "A")
-          (ModuleTree.structEnd (ItemTrees.definedType (codes "t") (TypeTree.constant 0 []) (ItemTrees.value (codes "x") (TermTree.atom (AtomTree.literal (codes
+          (ModuleTree.struct_end (ItemTrees.defined_type (codes "t") (TypeTree.constant 0 []) (ItemTrees.value (codes "x") (TermTree.atom (AtomTree.literal (codes
           "1"))) ItemTrees.done)) []) (ItemTrees.submodule (codes "B") (ModuleTree.path (record { first = (codes "F"); more = [] }) ((record {
             first = (codes "A");
             more = [];
@@ -108,9 +108,9 @@ abbrev pub unit_tree9 : UnitTree
 unit_tree9 =
     record {
       name = (codes "U");
-      items = (ItemTrees.submodule (codes "F") (ModuleTree.functor (codes "X") (SignatureTree.sigEnd (SpecTrees.abstractType (codes
-          "t") (SpecTrees.value (codes "x") (TypeTree.path (LongName.plain (codes "t")) []) SpecTrees.done))) (ModuleTree.structEnd ItemTrees.done []))
-          (ItemTrees.submodule (codes "E") (ModuleTree.structEnd ItemTrees.done []) (ItemTrees.submodule (codes "A") (ModuleTree.path (record {
+      items = (ItemTrees.submodule (codes "F") (ModuleTree.functor (codes "X") (SignatureTree.sig_end (SpecTrees.abstract_type (codes
+          "t") (SpecTrees.value (codes "x") (TypeTree.path (LongName.plain (codes "t")) []) SpecTrees.done))) (ModuleTree.struct_end ItemTrees.done []))
+          (ItemTrees.submodule (codes "E") (ModuleTree.struct_end ItemTrees.done []) (ItemTrees.submodule (codes "A") (ModuleTree.path (record {
             first = (codes "F");
             more = [];
           }) ((record { first = (codes "E"); more = [] }) ∷ [])) ItemTrees.done)));
@@ -122,10 +122,10 @@ abbrev pub unit_tree10 : UnitTree
 unit_tree10 =
     record {
       name = (codes "U");
-      items = (ItemTrees.definedType (codes "t") (TypeTree.constant 0 []) (ItemTrees.value (codes "x") (TermTree.atom
-          (AtomTree.literal (codes "1"))) (ItemTrees.submodule (codes "N") (ModuleTree.structEnd (ItemTrees.value (codes "v") (TermTree.atom (AtomTree.constant 3))
-          ItemTrees.done) []) (ItemTrees.submodule (codes "F") (ModuleTree.functor (codes "X") (SignatureTree.sigEnd (SpecTrees.value (codes "a") (TypeTree.constant 0
-          []) SpecTrees.done)) (ModuleTree.structEnd (ItemTrees.value (codes "b") (TermTree.atom (AtomTree.path (LongName.inside (codes "X") (LongName.plain (codes
+      items = (ItemTrees.defined_type (codes "t") (TypeTree.constant 0 []) (ItemTrees.value (codes "x") (TermTree.atom
+          (AtomTree.literal (codes "1"))) (ItemTrees.submodule (codes "N") (ModuleTree.struct_end (ItemTrees.value (codes "v") (TermTree.atom (AtomTree.constant 3))
+          ItemTrees.done) []) (ItemTrees.submodule (codes "F") (ModuleTree.functor (codes "X") (SignatureTree.sig_end (SpecTrees.value (codes "a") (TypeTree.constant 0
+          []) SpecTrees.done)) (ModuleTree.struct_end (ItemTrees.value (codes "b") (TermTree.atom (AtomTree.path (LongName.inside (codes "X") (LongName.plain (codes
           "a"))))) ItemTrees.done) [])) ItemTrees.done))));
       rank = None;
     }
@@ -135,8 +135,8 @@ abbrev pub unit_tree11 : UnitTree
 unit_tree11 =
     record {
       name = (codes "U");
-      items = (ItemTrees.submodule (codes "F") (ModuleTree.functor (codes "X") (SignatureTree.sigEnd (SpecTrees.value (codes "a")
-          (TypeTree.constant 0 []) SpecTrees.done)) (ModuleTree.structEnd (ItemTrees.value (codes "b") (TermTree.atom (AtomTree.path (LongName.inside (codes "X")
+      items = (ItemTrees.submodule (codes "F") (ModuleTree.functor (codes "X") (SignatureTree.sig_end (SpecTrees.value (codes "a")
+          (TypeTree.constant 0 []) SpecTrees.done)) (ModuleTree.struct_end (ItemTrees.value (codes "b") (TermTree.atom (AtomTree.path (LongName.inside (codes "X")
           (LongName.plain (codes "a"))))) ItemTrees.done) [])) ItemTrees.done);
       rank = None;
     }
@@ -146,8 +146,8 @@ abbrev pub unit_tree12 : UnitTree
 unit_tree12 =
     record {
       name = (codes "U");
-      items = (ItemTrees.submodule (codes "F") (ModuleTree.functor (codes "X") (SignatureTree.sigEnd (SpecTrees.abstractType (codes
-          "t") (SpecTrees.value (codes "x") (TypeTree.path (LongName.plain (codes "t")) []) SpecTrees.done))) (ModuleTree.structEnd (ItemTrees.definedType (codes "u")
+      items = (ItemTrees.submodule (codes "F") (ModuleTree.functor (codes "X") (SignatureTree.sig_end (SpecTrees.abstract_type (codes
+          "t") (SpecTrees.value (codes "x") (TypeTree.path (LongName.plain (codes "t")) []) SpecTrees.done))) (ModuleTree.struct_end (ItemTrees.defined_type (codes "u")
           (TypeTree.path (LongName.inside (codes "X") (LongName.plain (codes "t"))) []) (ItemTrees.value (codes "y") (TermTree.atom (AtomTree.path (LongName.inside
           (codes "X") (LongName.plain (codes "x"))))) ItemTrees.done)) [])) ItemTrees.done);
       rank = None;
@@ -158,7 +158,7 @@ abbrev pub unit_tree13 : UnitTree
 unit_tree13 =
     record {
       name = (codes "U");
-      items = (ItemTrees.submodule (codes "A") (ModuleTree.structEnd (ItemTrees.value (codes "x") (TermTree.atom (AtomTree.literal
+      items = (ItemTrees.submodule (codes "A") (ModuleTree.struct_end (ItemTrees.value (codes "x") (TermTree.atom (AtomTree.literal
           (codes "1"))) ItemTrees.done) []) (ItemTrees.value (codes "y") (TermTree.atom (AtomTree.path (LongName.inside (codes "A") (LongName.plain (codes "z")))))
           ItemTrees.done));
       rank = None;
@@ -169,7 +169,7 @@ abbrev pub unit_tree14 : UnitTree
 unit_tree14 =
     record {
       name = (codes "U");
-      items = (ItemTrees.submodule (codes "A") (ModuleTree.structEnd (ItemTrees.definedType (codes "x") (TypeTree.constant 0 [])
+      items = (ItemTrees.submodule (codes "A") (ModuleTree.struct_end (ItemTrees.defined_type (codes "x") (TypeTree.constant 0 [])
           ItemTrees.done) []) (ItemTrees.value (codes "y") (TermTree.atom (AtomTree.path (LongName.inside (codes "A") (LongName.plain (codes "x")))))
           ItemTrees.done));
       rank = None;
@@ -180,8 +180,8 @@ abbrev pub unit_tree15 : UnitTree
 unit_tree15 =
     record {
       name = (codes "U");
-      items = (ItemTrees.submodule (codes "F") (ModuleTree.functor (codes "X") (SignatureTree.sigEnd SpecTrees.done)
-          (ModuleTree.structEnd (ItemTrees.value (codes "x") (TermTree.atom (AtomTree.literal (codes "1"))) ItemTrees.done) [])) (ItemTrees.value (codes "y")
+      items = (ItemTrees.submodule (codes "F") (ModuleTree.functor (codes "X") (SignatureTree.sig_end SpecTrees.done)
+          (ModuleTree.struct_end (ItemTrees.value (codes "x") (TermTree.atom (AtomTree.literal (codes "1"))) ItemTrees.done) [])) (ItemTrees.value (codes "y")
           (TermTree.atom (AtomTree.path (LongName.inside (codes "F") (LongName.plain (codes "x"))))) ItemTrees.done));
       rank = None;
     }
@@ -191,7 +191,7 @@ abbrev pub unit_tree16 : UnitTree
 unit_tree16 =
     record {
       name = (codes "U");
-      items = (ItemTrees.submodule (codes "A") (ModuleTree.structEnd ItemTrees.done []) (ItemTrees.submodule (codes "B")
+      items = (ItemTrees.submodule (codes "A") (ModuleTree.struct_end ItemTrees.done []) (ItemTrees.submodule (codes "B")
           (ModuleTree.path (record { first = (codes "A"); more = [] }) ((record { first = (codes "A"); more = [] }) ∷ [])) ItemTrees.done));
       rank = None;
     }
@@ -201,7 +201,7 @@ abbrev pub unit_tree17 : UnitTree
 unit_tree17 =
     record {
       name = (codes "U");
-      items = (ItemTrees.submodule (codes "A") (ModuleTree.structEnd ItemTrees.done []) (ItemTrees.submodule (codes "B")
+      items = (ItemTrees.submodule (codes "A") (ModuleTree.struct_end ItemTrees.done []) (ItemTrees.submodule (codes "B")
           (ModuleTree.path (record { first = (codes "A"); more = [] }) ((record { first = (codes "A"); more = ((codes "D") ∷ []) }) ∷ [])) ItemTrees.done));
       rank =
           None;
@@ -212,8 +212,8 @@ abbrev pub unit_tree18 : UnitTree
 unit_tree18 =
     record {
       name = (codes "U");
-      items = (ItemTrees.submodule (codes "E") (ModuleTree.structEnd ItemTrees.done []) (ItemTrees.submodule (codes "A")
-          (ModuleTree.bracket (ModuleTree.functor (codes "X") (SignatureTree.sigEnd SpecTrees.done) (ModuleTree.structEnd (ItemTrees.value (codes "x") (TermTree.atom
+      items = (ItemTrees.submodule (codes "E") (ModuleTree.struct_end ItemTrees.done []) (ItemTrees.submodule (codes "A")
+          (ModuleTree.bracket (ModuleTree.functor (codes "X") (SignatureTree.sig_end SpecTrees.done) (ModuleTree.struct_end (ItemTrees.value (codes "x") (TermTree.atom
           (AtomTree.literal (codes "1"))) ItemTrees.done) [])) ((record { first = (codes "E"); more = [] }) ∷ [])) (ItemTrees.value (codes "y") (TermTree.two 4
           (AtomTree.path (LongName.inside (codes "A") (LongName.plain (codes "x")))) (AtomTree.literal (codes "1"))) ItemTrees.done)));
       rank = None;
@@ -224,8 +224,8 @@ abbrev pub unit_tree19 : UnitTree
 unit_tree19 =
     record {
       name = (codes "U");
-      items = (ItemTrees.submodule (codes "E") (ModuleTree.structEnd ItemTrees.done []) (ItemTrees.submodule (codes "A")
-          (ModuleTree.functor (codes "X") (SignatureTree.sigEnd SpecTrees.done) (ModuleTree.structEnd ItemTrees.done ((record { first = (codes "E"); more = [] }) ∷
+      items = (ItemTrees.submodule (codes "E") (ModuleTree.struct_end ItemTrees.done []) (ItemTrees.submodule (codes "A")
+          (ModuleTree.functor (codes "X") (SignatureTree.sig_end SpecTrees.done) (ModuleTree.struct_end ItemTrees.done ((record { first = (codes "E"); more = [] }) ∷
           []))) ItemTrees.done));
       rank = None;
     }
@@ -246,9 +246,9 @@ abbrev pub unit_tree21 : UnitTree
 unit_tree21 =
     record {
       name = (codes "U");
-      items = (ItemTrees.definedType (codes "t") (TypeTree.constant 0 []) (ItemTrees.submodule (codes "A") (ModuleTree.structEnd
-          (ItemTrees.definedType (codes "u") (TypeTree.path (LongName.plain (codes "t")) []) (ItemTrees.definedType (codes "t") (TypeTree.constant 1 [])
-          (ItemTrees.definedType (codes "v") (TypeTree.path (LongName.plain (codes "t")) []) ItemTrees.done))) []) (ItemTrees.value (codes "y") (TermTree.three 5
+      items = (ItemTrees.defined_type (codes "t") (TypeTree.constant 0 []) (ItemTrees.submodule (codes "A") (ModuleTree.struct_end
+          (ItemTrees.defined_type (codes "u") (TypeTree.path (LongName.plain (codes "t")) []) (ItemTrees.defined_type (codes "t") (TypeTree.constant 1 [])
+          (ItemTrees.defined_type (codes "v") (TypeTree.path (LongName.plain (codes "t")) []) ItemTrees.done))) []) (ItemTrees.value (codes "y") (TermTree.three 5
           (AtomTree.constant 3) (AtomTree.bracket (TermTree.function (codes "a") (TypeTree.path (LongName.inside (codes "A") (LongName.plain (codes "u"))) [])
           (TermTree.atom (AtomTree.path (LongName.plain (codes "a")))))) (AtomTree.bracket (TermTree.function (codes "b") (TypeTree.path (LongName.plain (codes "t"))
           []) (TermTree.atom (AtomTree.path (LongName.plain (codes "b"))))))) ItemTrees.done)));
@@ -327,7 +327,7 @@ abbrev pub unit_tree30 : UnitTree
 unit_tree30 =
     record {
       name = (codes "A");
-      items = (ItemTrees.definedType (codes "t") (TypeTree.constant 0 []) (ItemTrees.value (codes "x") (TermTree.atom
+      items = (ItemTrees.defined_type (codes "t") (TypeTree.constant 0 []) (ItemTrees.value (codes "x") (TermTree.atom
           (AtomTree.literal (codes "1"))) ItemTrees.done));
       rank = None;
     }
@@ -345,145 +345,145 @@ unit_tree31 =
 -- sig end
 abbrev pub text_tree1 : SignatureTree
 text_tree1 =
-    SignatureTree.sigEnd SpecTrees.done
+    SignatureTree.sig_end SpecTrees.done
 
 -- sig val x : int end
 abbrev pub text_tree2 : SignatureTree
 text_tree2 =
-    SignatureTree.sigEnd (SpecTrees.value (codes "x") (TypeTree.constant 0 []) SpecTrees.done)
+    SignatureTree.sig_end (SpecTrees.value (codes "x") (TypeTree.constant 0 []) SpecTrees.done)
 
 -- sig val x : bool end
 abbrev pub text_tree3 : SignatureTree
 text_tree3 =
-    SignatureTree.sigEnd (SpecTrees.value (codes "x") (TypeTree.constant 1 []) SpecTrees.done)
+    SignatureTree.sig_end (SpecTrees.value (codes "x") (TypeTree.constant 1 []) SpecTrees.done)
 
 -- sig module B : sig val y : int end val z : int end
 abbrev pub text_tree4 : SignatureTree
 text_tree4 =
-    SignatureTree.sigEnd (SpecTrees.submodule (codes "B") (SignatureTree.sigEnd (SpecTrees.value (codes "y") (TypeTree.constant 0 []) SpecTrees.done))
+    SignatureTree.sig_end (SpecTrees.submodule (codes "B") (SignatureTree.sig_end (SpecTrees.value (codes "y") (TypeTree.constant 0 []) SpecTrees.done))
     (SpecTrees.value (codes "z") (TypeTree.constant 0 []) SpecTrees.done))
 
 -- sig type x end
 abbrev pub text_tree5 : SignatureTree
 text_tree5 =
-    SignatureTree.sigEnd (SpecTrees.abstractType (codes "x") SpecTrees.done)
+    SignatureTree.sig_end (SpecTrees.abstract_type (codes "x") SpecTrees.done)
 
 -- sig val y : int end
 abbrev pub text_tree6 : SignatureTree
 text_tree6 =
-    SignatureTree.sigEnd (SpecTrees.value (codes "y") (TypeTree.constant 0 []) SpecTrees.done)
+    SignatureTree.sig_end (SpecTrees.value (codes "y") (TypeTree.constant 0 []) SpecTrees.done)
 
 -- sig type t = bool end
 abbrev pub text_tree7 : SignatureTree
 text_tree7 =
-    SignatureTree.sigEnd (SpecTrees.definedType (codes "t") (TypeTree.constant 1 []) SpecTrees.done)
+    SignatureTree.sig_end (SpecTrees.defined_type (codes "t") (TypeTree.constant 1 []) SpecTrees.done)
 
 -- sig type t = int val x : t end
 abbrev pub text_tree8 : SignatureTree
 text_tree8 =
-    SignatureTree.sigEnd (SpecTrees.definedType (codes "t") (TypeTree.constant 0 []) (SpecTrees.value (codes "x") (TypeTree.path (LongName.plain (codes "t"))
+    SignatureTree.sig_end (SpecTrees.defined_type (codes "t") (TypeTree.constant 0 []) (SpecTrees.value (codes "x") (TypeTree.path (LongName.plain (codes "t"))
     []) SpecTrees.done))
 
 -- sig module N : sig val w : bool end end
 abbrev pub text_tree9 : SignatureTree
 text_tree9 =
-    SignatureTree.sigEnd (SpecTrees.submodule (codes "N") (SignatureTree.sigEnd (SpecTrees.value (codes "w") (TypeTree.constant 1 []) SpecTrees.done))
+    SignatureTree.sig_end (SpecTrees.submodule (codes "N") (SignatureTree.sig_end (SpecTrees.value (codes "w") (TypeTree.constant 1 []) SpecTrees.done))
     SpecTrees.done)
 
 -- sig module N : sig val v : int end end
 abbrev pub text_tree10 : SignatureTree
 text_tree10 =
-    SignatureTree.sigEnd (SpecTrees.submodule (codes "N") (SignatureTree.sigEnd (SpecTrees.value (codes "v") (TypeTree.constant 0 []) SpecTrees.done))
+    SignatureTree.sig_end (SpecTrees.submodule (codes "N") (SignatureTree.sig_end (SpecTrees.value (codes "v") (TypeTree.constant 0 []) SpecTrees.done))
     SpecTrees.done)
 
 -- sig module N : functor (X : sig end) -> sig end end
 abbrev pub text_tree11 : SignatureTree
 text_tree11 =
-    SignatureTree.sigEnd (SpecTrees.submodule (codes "N") (SignatureTree.functor (codes "X") (SignatureTree.sigEnd SpecTrees.done) (SignatureTree.sigEnd
+    SignatureTree.sig_end (SpecTrees.submodule (codes "N") (SignatureTree.functor (codes "X") (SignatureTree.sig_end SpecTrees.done) (SignatureTree.sig_end
     SpecTrees.done)) SpecTrees.done)
 
 -- sig module F : sig end end
 abbrev pub text_tree12 : SignatureTree
 text_tree12 =
-    SignatureTree.sigEnd (SpecTrees.submodule (codes "F") (SignatureTree.sigEnd SpecTrees.done) SpecTrees.done)
+    SignatureTree.sig_end (SpecTrees.submodule (codes "F") (SignatureTree.sig_end SpecTrees.done) SpecTrees.done)
 
 -- functor (X : sig end) -> sig end
 abbrev pub text_tree13 : SignatureTree
 text_tree13 =
-    SignatureTree.functor (codes "X") (SignatureTree.sigEnd SpecTrees.done) (SignatureTree.sigEnd SpecTrees.done)
+    SignatureTree.functor (codes "X") (SignatureTree.sig_end SpecTrees.done) (SignatureTree.sig_end SpecTrees.done)
 
 -- sig module F : functor (X : sig val a : int val c : bool end) -> sig val b : int end end
 abbrev pub text_tree14 : SignatureTree
 text_tree14 =
-    SignatureTree.sigEnd (SpecTrees.submodule (codes "F") (SignatureTree.functor (codes "X") (SignatureTree.sigEnd (SpecTrees.value (codes "a")
-    (TypeTree.constant 0 []) (SpecTrees.value (codes "c") (TypeTree.constant 1 []) SpecTrees.done))) (SignatureTree.sigEnd (SpecTrees.value (codes "b")
+    SignatureTree.sig_end (SpecTrees.submodule (codes "F") (SignatureTree.functor (codes "X") (SignatureTree.sig_end (SpecTrees.value (codes "a")
+    (TypeTree.constant 0 []) (SpecTrees.value (codes "c") (TypeTree.constant 1 []) SpecTrees.done))) (SignatureTree.sig_end (SpecTrees.value (codes "b")
     (TypeTree.constant 0 []) SpecTrees.done))) SpecTrees.done)
 
 -- sig module F : functor (Y : sig val a : int end) -> sig end end
 abbrev pub text_tree15 : SignatureTree
 text_tree15 =
-    SignatureTree.sigEnd (SpecTrees.submodule (codes "F") (SignatureTree.functor (codes "Y") (SignatureTree.sigEnd (SpecTrees.value (codes "a")
-    (TypeTree.constant 0 []) SpecTrees.done)) (SignatureTree.sigEnd SpecTrees.done)) SpecTrees.done)
+    SignatureTree.sig_end (SpecTrees.submodule (codes "F") (SignatureTree.functor (codes "Y") (SignatureTree.sig_end (SpecTrees.value (codes "a")
+    (TypeTree.constant 0 []) SpecTrees.done)) (SignatureTree.sig_end SpecTrees.done)) SpecTrees.done)
 
 -- sig module F : functor (X : sig end) -> sig val b : int end end
 abbrev pub text_tree16 : SignatureTree
 text_tree16 =
-    SignatureTree.sigEnd (SpecTrees.submodule (codes "F") (SignatureTree.functor (codes "X") (SignatureTree.sigEnd SpecTrees.done) (SignatureTree.sigEnd
+    SignatureTree.sig_end (SpecTrees.submodule (codes "F") (SignatureTree.functor (codes "X") (SignatureTree.sig_end SpecTrees.done) (SignatureTree.sig_end
     (SpecTrees.value (codes "b") (TypeTree.constant 0 []) SpecTrees.done))) SpecTrees.done)
 
 -- sig module F : functor (X : sig val a : bool end) -> sig val b : int end end
 abbrev pub text_tree17 : SignatureTree
 text_tree17 =
-    SignatureTree.sigEnd (SpecTrees.submodule (codes "F") (SignatureTree.functor (codes "X") (SignatureTree.sigEnd (SpecTrees.value (codes "a")
-    (TypeTree.constant 1 []) SpecTrees.done)) (SignatureTree.sigEnd (SpecTrees.value (codes "b") (TypeTree.constant 0 []) SpecTrees.done))) SpecTrees.done)
+    SignatureTree.sig_end (SpecTrees.submodule (codes "F") (SignatureTree.functor (codes "X") (SignatureTree.sig_end (SpecTrees.value (codes "a")
+    (TypeTree.constant 1 []) SpecTrees.done)) (SignatureTree.sig_end (SpecTrees.value (codes "b") (TypeTree.constant 0 []) SpecTrees.done))) SpecTrees.done)
 
 -- sig module F : functor (X : sig val a : int end) -> sig val b : bool end end
 abbrev pub text_tree18 : SignatureTree
 text_tree18 =
-    SignatureTree.sigEnd (SpecTrees.submodule (codes "F") (SignatureTree.functor (codes "X") (SignatureTree.sigEnd (SpecTrees.value (codes "a")
-    (TypeTree.constant 0 []) SpecTrees.done)) (SignatureTree.sigEnd (SpecTrees.value (codes "b") (TypeTree.constant 1 []) SpecTrees.done))) SpecTrees.done)
+    SignatureTree.sig_end (SpecTrees.submodule (codes "F") (SignatureTree.functor (codes "X") (SignatureTree.sig_end (SpecTrees.value (codes "a")
+    (TypeTree.constant 0 []) SpecTrees.done)) (SignatureTree.sig_end (SpecTrees.value (codes "b") (TypeTree.constant 1 []) SpecTrees.done))) SpecTrees.done)
 
 -- sig module F : functor (X : functor (Y : sig end) -> sig end) -> sig end end
 abbrev pub text_tree19 : SignatureTree
 text_tree19 =
-    SignatureTree.sigEnd (SpecTrees.submodule (codes "F") (SignatureTree.functor (codes "X") (SignatureTree.functor (codes "Y") (SignatureTree.sigEnd
-    SpecTrees.done) (SignatureTree.sigEnd SpecTrees.done)) (SignatureTree.sigEnd SpecTrees.done)) SpecTrees.done)
+    SignatureTree.sig_end (SpecTrees.submodule (codes "F") (SignatureTree.functor (codes "X") (SignatureTree.functor (codes "Y") (SignatureTree.sig_end
+    SpecTrees.done) (SignatureTree.sig_end SpecTrees.done)) (SignatureTree.sig_end SpecTrees.done)) SpecTrees.done)
 
 -- sig module F : functor (X : sig type t = int val x : t end) -> sig type u = int val y : int end end
 abbrev pub text_tree20 : SignatureTree
 text_tree20 =
-    SignatureTree.sigEnd (SpecTrees.submodule (codes "F") (SignatureTree.functor (codes "X") (SignatureTree.sigEnd (SpecTrees.definedType (codes "t")
-    (TypeTree.constant 0 []) (SpecTrees.value (codes "x") (TypeTree.path (LongName.plain (codes "t")) []) SpecTrees.done))) (SignatureTree.sigEnd
-    (SpecTrees.definedType (codes "u") (TypeTree.constant 0 []) (SpecTrees.value (codes "y") (TypeTree.constant 0 []) SpecTrees.done)))) SpecTrees.done)
+    SignatureTree.sig_end (SpecTrees.submodule (codes "F") (SignatureTree.functor (codes "X") (SignatureTree.sig_end (SpecTrees.defined_type (codes "t")
+    (TypeTree.constant 0 []) (SpecTrees.value (codes "x") (TypeTree.path (LongName.plain (codes "t")) []) SpecTrees.done))) (SignatureTree.sig_end
+    (SpecTrees.defined_type (codes "u") (TypeTree.constant 0 []) (SpecTrees.value (codes "y") (TypeTree.constant 0 []) SpecTrees.done)))) SpecTrees.done)
 
 -- sig module F : functor (X : sig type t val x : t end) -> sig type u = int end end
 abbrev pub text_tree21 : SignatureTree
 text_tree21 =
-    SignatureTree.sigEnd (SpecTrees.submodule (codes "F") (SignatureTree.functor (codes "X") (SignatureTree.sigEnd (SpecTrees.abstractType (codes "t")
-    (SpecTrees.value (codes "x") (TypeTree.path (LongName.plain (codes "t")) []) SpecTrees.done))) (SignatureTree.sigEnd (SpecTrees.definedType (codes "u")
+    SignatureTree.sig_end (SpecTrees.submodule (codes "F") (SignatureTree.functor (codes "X") (SignatureTree.sig_end (SpecTrees.abstract_type (codes "t")
+    (SpecTrees.value (codes "x") (TypeTree.path (LongName.plain (codes "t")) []) SpecTrees.done))) (SignatureTree.sig_end (SpecTrees.defined_type (codes "u")
     (TypeTree.constant 0 []) SpecTrees.done))) SpecTrees.done)
 
 -- sig val y : A.t end
 abbrev pub text_tree22 : SignatureTree
 text_tree22 =
-    SignatureTree.sigEnd (SpecTrees.value (codes "y") (TypeTree.path (LongName.inside (codes "A") (LongName.plain (codes "t"))) []) SpecTrees.done)
+    SignatureTree.sig_end (SpecTrees.value (codes "y") (TypeTree.path (LongName.inside (codes "A") (LongName.plain (codes "t"))) []) SpecTrees.done)
 
 -- sig val y : A.u end
 abbrev pub text_tree23 : SignatureTree
 text_tree23 =
-    SignatureTree.sigEnd (SpecTrees.value (codes "y") (TypeTree.path (LongName.inside (codes "A") (LongName.plain (codes "u"))) []) SpecTrees.done)
+    SignatureTree.sig_end (SpecTrees.value (codes "y") (TypeTree.path (LongName.inside (codes "A") (LongName.plain (codes "u"))) []) SpecTrees.done)
 
 -- sig val y : B.t end
 abbrev pub text_tree24 : SignatureTree
 text_tree24 =
-    SignatureTree.sigEnd (SpecTrees.value (codes "y") (TypeTree.path (LongName.inside (codes "B") (LongName.plain (codes "t"))) []) SpecTrees.done)
+    SignatureTree.sig_end (SpecTrees.value (codes "y") (TypeTree.path (LongName.inside (codes "B") (LongName.plain (codes "t"))) []) SpecTrees.done)
 
 -- sig val x : B.t end
 abbrev pub text_tree25 : SignatureTree
 text_tree25 =
-    SignatureTree.sigEnd (SpecTrees.value (codes "x") (TypeTree.path (LongName.inside (codes "B") (LongName.plain (codes "t"))) []) SpecTrees.done)
+    SignatureTree.sig_end (SpecTrees.value (codes "x") (TypeTree.path (LongName.inside (codes "B") (LongName.plain (codes "t"))) []) SpecTrees.done)
 
 -- sig val x : Z.t end
 abbrev pub text_tree26 : SignatureTree
 text_tree26 =
-    SignatureTree.sigEnd (SpecTrees.value (codes "x") (TypeTree.path (LongName.inside (codes "Z") (LongName.plain (codes "t"))) []) SpecTrees.done)
+    SignatureTree.sig_end (SpecTrees.value (codes "x") (TypeTree.path (LongName.inside (codes "Z") (LongName.plain (codes "t"))) []) SpecTrees.done)

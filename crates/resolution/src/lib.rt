@@ -1,5 +1,7 @@
 // Trees with their heads found and their brackets dropped, as a definition, and what holds of it.
 // Nothing is computed here: each function carries a theorem about the definitions in specs/, and takes constant time.
+#![tactic(auto)]
+
 ghost use Rattle.resolution.specs.Samples.{UnitSamples, SignatureSamples};
 ghost use Rattle.resolution.specs.MoreSamples.{MoreSamples};
 ghost use Rattle.resolution.specs.Statements.{HeadsAgree, UnitsNamed, SignaturesNamed, DeclaredOnce, HeadsAround, PlacesStand};
