@@ -1,5 +1,5 @@
 -- The second pass as it begins.
-use Rattle.std.proofs.Common.{◌≡◌, ℕ, suc, ◌*◌, ◌<◌, ◌≤◌, true, List, [], ◌∷◌, ◌++◌, length, None, Option, Result, sym, refl, ap, ◌∙◌, subst, arith}
+use Rattle.std.proofs.Common.{◌≡◌, ℕ, suc, ◌*◌, ◌<◌, ◌≤◌, true, List, [], ◌++◌, length, None, Option, Result, sym, refl, ap, ◌∙◌, subst, append-nil, arith}
 use Rattle.cores.specs.Meaning.{Word}
 use Rattle.reader.specs.declared.fault.ReadFault.{ReadFault}
 use Rattle.reader.specs.declared.notes.Firsts.{Firsts}
@@ -8,50 +8,48 @@ use Rattle.reader.specs.declared.symbol.Symbol.{Symbol}
 use Rattle.reader.specs.Parsing.{start_of, is_accepted}
 use Rattle.reader.specs.Reading.{reads, default_rank}
 use Rattle.reader.specs.Streams.{stream_of}
-use Rattle.reader.specs.Notes.{Note, Around}
-use Rattle.reader.specs.Annotate.{Attr, both, inherits, annotate, static_fault, first_where, is_too_deep, is_again, is_undeclared}
+use Rattle.reader.specs.Notes.{Note}
+use Rattle.reader.specs.Annotate.{Attr, annotate, static_fault, first_where, is_too_deep, is_again, is_undeclared}
 use Rattle.reader.specs.Rows.{scope_of}
 use Rattle.reader.specs.Frames.{symbols_of, attrs_of}
-use Rattle.reader.specs.Firsts.{start_attrs, ask_firsts, answered}
+use Rattle.reader.specs.Firsts.{start_attrs, root_attrs, text_notes, ask_firsts, answered}
 use Rattle.reader.proofs.Checks.{sealed}
+use Rattle.reader.proofs.Capacity.{symbols_long}
 use Rattle.reader.proofs.Noting.{Noting, Small, map_attrs}
 use Rattle.reader.proofs.Turns.{State, begin}
 
-append_nil : {X : Type 0} (xs : List X) → xs ++ [] ≡ xs
-append_nil [] = refl
-append_nil {X} (x ∷ xs) = ap (λ (y : List X). x ∷ y) (append_nil xs)
-
-abbrev pub nowhere_yet : Around ℕ
-nowhere_yet = record { opened = 0; scope = 0 }
-
--- what the first symbols get
-abbrev pub first_attrs : List Symbol → List (Attr ℕ)
-first_attrs xs = inherits xs [] (both nowhere_yet) nowhere_yet 0
-
 pub first_symbols : (w : List ℕ) (d : ℕ) (xs : List Symbol) (s : Start) → symbols_of w d ≡ xs ++ [] → xs ≡ start_of s → symbols_of w d ≡ start_of s
-first_symbols w d xs s a b = a ∙ append_nil xs ∙ b
+first_symbols w d xs s a b = a ∙ append-nil xs ∙ b
 
-pub first_attrs_lem : (w : List ℕ) (d : ℕ) (xs : List Symbol) (s : Start) → attrs_of w d ≡ first_attrs xs ++ [] → xs ≡ start_of s → attrs_of w d ≡ first_attrs (start_of s)
-first_attrs_lem w d xs s a b = a ∙ append_nil (first_attrs xs) ∙ ap first_attrs b
+pub begun_attrs : (w : List ℕ) (d : ℕ) (xs : List Symbol) (s : Start) → attrs_of w d ≡ root_attrs xs ++ [] → xs ≡ start_of s → attrs_of w d ≡ root_attrs (start_of s)
+begun_attrs w d xs s a b = a ∙ append-nil (root_attrs xs) ∙ ap root_attrs b
 
 start_sealed : (s : Start) → sealed (start_of s) ≡ true
 start_sealed Start.«Unit» = refl
 start_sealed Start.Signature = refl
 
-start_small : (s : Start) → Small 0 (2 * 0) (first_attrs (start_of s))
+start_small : (s : Start) → Small 0 (2 * 0) (root_attrs (start_of s))
 start_small Start.«Unit» = (((omega arith, omega arith), (omega arith, omega arith)), tt)
 start_small Start.Signature = (((omega arith, omega arith), (omega arith, omega arith)), (((omega arith, omega arith), (omega arith, omega arith)), tt))
 
-pub start_long : (s : Start) → (0 < length (start_of s)) × (length (start_of s) ≤ 2)
+start_long : (s : Start) → (0 < length (start_of s)) × (length (start_of s) ≤ 2)
 start_long Start.«Unit» = (omega arith, omega arith)
 start_long Start.Signature = (omega arith, omega arith)
+
+-- as many frames as symbols
+pub begun_deep : (w : List ℕ) (d : ℕ) (s : Start) → symbols_of w d ≡ start_of s → (0 < d) × (d ≤ 2)
+begun_deep w d s e = let n = start_long s in let k = ap length e in (omega (arith, n.0, k, symbols_long w d), omega (arith, n.1, k, symbols_long w d))
 
 pub begun_state : (ws : List Word) (text w : List ℕ) (d : ℕ) (s : Start) → symbols_of w d ≡ start_of s → State ws text (symbols_of w d) (symbols_of w d) 0 default_rank
 begun_state ws text w d s e = begin ws text (symbols_of w d) (ap sealed e ∙ start_sealed s)
 
-pub begun_noting : (ws : List Word) (text : List ℕ) (asked : ℕ) (row w : List ℕ) (d : ℕ) (s : Start) → attrs_of w d ≡ first_attrs (start_of s) →
-    Noting ws text asked (annotate (symbols_of w d) (map_attrs (scope_of row text) (attrs_of w d)) (stream_of ws text)) (symbols_of w d) (attrs_of w d) row 0 0
-    (record { deep = None; again = None; missing = None; mention = None })
+-- the notes from the first frames
+abbrev pub begun_notes : List Word → List ℕ → List ℕ → List ℕ → ℕ → List (Note × ℕ)
+begun_notes ws text row w d = annotate (symbols_of w d) (map_attrs (scope_of row text) (attrs_of w d)) (stream_of ws text)
+
+pub begun_noting : (ws : List Word) (text : List ℕ) (asked : ℕ) (row w : List ℕ) (d : ℕ) (s : Start) → attrs_of w d ≡ root_attrs (start_of s) →
+    Noting ws text asked (begun_notes ws text row w d) (symbols_of w d) (attrs_of w d) row 0 0
+    (record { deep = None; again = None; missing = None; mention = None }) []
 begun_noting ws text asked row w d s e =
     record {
       fuel = suc (length text);
@@ -60,17 +58,18 @@ begun_noting ws text asked row w d s e =
       again = refl;
       missing = refl;
       mention = refl;
+      heads = refl;
       small = subst (Small 0 (2 * 0)) (sym e) (start_small s);
       few = omega arith;
     }
 
-first_scopes : (row text : List ℕ) (s : Start) → map_attrs (scope_of row text) (first_attrs (start_of s)) ≡ start_attrs s
+first_scopes : (row text : List ℕ) (s : Start) → map_attrs (scope_of row text) (root_attrs (start_of s)) ≡ start_attrs s
 first_scopes row text Start.«Unit» = refl
 first_scopes row text Start.Signature = refl
 
 -- the notes from the first frames are those of the definition
-pub all_notes : (ws : List Word) (text row w : List ℕ) (d : ℕ) (s : Start) → symbols_of w d ≡ start_of s → attrs_of w d ≡ first_attrs (start_of s) →
-    annotate (symbols_of w d) (map_attrs (scope_of row text) (attrs_of w d)) (stream_of ws text) ≡ annotate (start_of s) (start_attrs s) (stream_of ws text)
+pub all_notes : (ws : List Word) (text row w : List ℕ) (d : ℕ) (s : Start) → symbols_of w d ≡ start_of s → attrs_of w d ≡ root_attrs (start_of s) →
+    begun_notes ws text row w d ≡ text_notes s ws text
 all_notes ws text row w d s e f =
     ap (λ (x : List Symbol). annotate x (map_attrs (scope_of row text) (attrs_of w d)) (stream_of ws text)) e
     ∙ ap (λ (x : List (Attr ℕ)). annotate (start_of s) (map_attrs (scope_of row text) x) (stream_of ws text)) f

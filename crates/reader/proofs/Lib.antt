@@ -20,4 +20,5 @@ mod Capacity
 mod Passes
 mod Begun
 mod Mentioned
+mod Heads
 mod Upper

@@ -1,5 +1,5 @@
 -- The turns of the second pass.
-use Rattle.std.proofs.Common.{◌≡◌, ℕ, zero, suc, ◌+◌, ◌*◌, ◌<◌, ◌≤◌, Bool, true, false, cond, List, [], ◌∷◌, ◌++◌, length, Some, None, Option, sym, refl, ap, ◌∙◌, subst, arith}
+use Rattle.std.proofs.Common.{◌≡◌, ℕ, zero, suc, ◌+◌, ◌*◌, ◌<◌, ◌≤◌, Bool, true, false, cond, List, [], ◌∷◌, ◌++◌, length, Some, None, Option, sym, refl, ap, ◌∙◌, subst, append_assoc, arith}
 use Rattle.tokens.specs.Lexer.{Next, at_end, token, next_token}
 use Rattle.tokens.specs.Pieces.{Piece}
 use Rattle.tokens.proofs.Walk.{advance}
@@ -14,9 +14,9 @@ use Rattle.reader.specs.Grammar.{expand}
 use Rattle.reader.specs.Scopes.{Scope}
 use Rattle.reader.specs.Streams.{ahead, stream_from}
 use Rattle.reader.specs.Notes.{Note, Around}
-use Rattle.reader.specs.Annotate.{Attr, both, is_outside, around, name_of, note_at, rules, introduces, entered, inherit, inherits, handed, proceed, annotate, is_too_deep, is_again, is_undeclared, names_unit, first_where}
+use Rattle.reader.specs.Annotate.{Attr, both, is_outside, around, name_of, note_at, rules, introduces, entered, inherit, inherits, handed, proceed, annotate, is_too_deep, is_again, is_undeclared, is_unit, names_unit, first_where, unit_places}
 use Rattle.reader.specs.Rows.{scope_of, part_of}
-use Rattle.reader.specs.Firsts.{first_of, EnteredRow}
+use Rattle.reader.specs.Firsts.{first_of, listed, EnteredRow}
 
 -- ---- scopes by numbers and scopes
 
@@ -137,15 +137,31 @@ or_step test None n p ns = go (test (n, p))
     go true = refl
     go false = refl
 
+-- a first place goes on
+first_goes : (test : Note × ℕ → Bool) (old new : Option ℕ) (n : Note) (p : ℕ) → new ≡ first_of old (test (n, p)) p →
+    (ns : List (Note × ℕ)) → or_else new (first_where test ns) ≡ or_else old (first_where test ((n, p) ∷ ns))
+first_goes test old new n p e ns = ap (λ (o : Option ℕ). or_else o (first_where test ns)) e ∙ or_step test old n p ns
+
+-- the places of heads go on
+heads_go : (hs hs' : List ℕ) (n : Note) (p : ℕ) → hs' ≡ listed hs (is_unit n.head) p →
+    (ns : List (Note × ℕ)) → hs' ++ unit_places ns ≡ hs ++ unit_places ((n, p) ∷ ns)
+heads_go hs hs' n p e ns = ap (λ (x : List ℕ). x ++ unit_places ns) e ∙ go (is_unit n.head)
+  where
+    go : (b : Bool) → listed hs b p ++ unit_places ns ≡ hs ++ cond b (p ∷ unit_places ns) (unit_places ns)
+    go true = append_assoc hs (p ∷ []) (unit_places ns)
+    go false = refl
+
 -- ---- the state of the second pass
 
-pub record Noting (ws : List Word) (text : List ℕ) (asked : ℕ) (all : List (Note × ℕ)) (σ : List Symbol) (attrs : List (Attr ℕ)) (row : List ℕ) (count from : ℕ) (f : Firsts) : Type 0 where
+pub record Noting (ws : List Word) (text : List ℕ) (asked : ℕ) (all : List (Note × ℕ)) (σ : List Symbol) (attrs : List (Attr ℕ)) (row : List ℕ) (count from : ℕ) (f : Firsts)
+    (hs : List ℕ) : Type 0 where
   pub fuel : ℕ
   pub enough : length text < fuel + from
   pub deep : or_else f.deep (first_where is_too_deep (annotate σ (map_attrs (scope_of row text) attrs) (stream_from fuel ws text from))) ≡ first_where is_too_deep all
   pub again : or_else f.again (first_where is_again (annotate σ (map_attrs (scope_of row text) attrs) (stream_from fuel ws text from))) ≡ first_where is_again all
   pub missing : or_else f.missing (first_where is_undeclared (annotate σ (map_attrs (scope_of row text) attrs) (stream_from fuel ws text from))) ≡ first_where is_undeclared all
   pub mention : or_else f.mention (first_where (names_unit asked) (annotate σ (map_attrs (scope_of row text) attrs) (stream_from fuel ws text from))) ≡ first_where (names_unit asked) all
+  pub heads : hs ++ unit_places (annotate σ (map_attrs (scope_of row text) attrs) (stream_from fuel ws text from)) ≡ unit_places all
   pub small : Small count (2 * from) attrs
   pub few : count ≤ from
 
@@ -157,7 +173,7 @@ pub record FirstsAfter (asked : ℕ) (old new : Firsts) (n : Note) (p : ℕ) : T
   pub mention : new.mention ≡ first_of old.mention (names_unit asked (n, p)) p
 
 module _ (ws : List Word) (text : List ℕ) (asked : ℕ) (all : List (Note × ℕ)) (t : Symbol) (σ : List Symbol) (a : Attr ℕ) (attrs : List (Attr ℕ))
-    (row : List ℕ) (count from : ℕ) (f : Firsts) (s : Noting ws text asked all (t ∷ σ) (a ∷ attrs) row count from f) (inside : from ≤ length text) where
+    (row : List ℕ) (count from : ℕ) (f : Firsts) (hs : List ℕ) (s : Noting ws text asked all (t ∷ σ) (a ∷ attrs) row count from f hs) (inside : from ≤ length text) where
   abbrev D : ℕ → Scope
   D i = scope_of row text i
 
@@ -166,19 +182,20 @@ module _ (ws : List Word) (text : List ℕ) (asked : ℕ) (all : List (Note × �
   step_of (suc m) h = (m, refl)
 
   -- what is left to be noted, by what comes next
-  left_by : (test : Note × ℕ → Bool) (old : Option ℕ) (m : ℕ) (x : Next) → s.fuel ≡ suc m → next_token text from ≡ x →
-      or_else old (first_where test (annotate (t ∷ σ) (map_attr D a ∷ map_attrs D attrs) (stream_from s.fuel ws text from))) ≡ first_where test all →
-      or_else old (first_where test (annotate (t ∷ σ) (map_attr D a ∷ map_attrs D attrs) (ahead ws (length text) x (λ end. stream_from m ws text end)))) ≡ first_where test all
-  left_by test old m x e n h =
-      ap (λ (y : Next). or_else old (first_where test (annotate (t ∷ σ) (map_attr D a ∷ map_attrs D attrs) (ahead ws (length text) y (λ end. stream_from m ws text end))))) (sym n)
-      ∙ subst (λ (k : ℕ). or_else old (first_where test (annotate (t ∷ σ) (map_attr D a ∷ map_attrs D attrs) (stream_from k ws text from))) ≡ first_where test all) e h
+  left_by : {Y : Type 0} (G : List (Note × ℕ) → Y) (y : Y) (m : ℕ) (x : Next) → s.fuel ≡ suc m → next_token text from ≡ x →
+      G (annotate (t ∷ σ) (map_attr D a ∷ map_attrs D attrs) (stream_from s.fuel ws text from)) ≡ y →
+      G (annotate (t ∷ σ) (map_attr D a ∷ map_attrs D attrs) (ahead ws (length text) x (λ end. stream_from m ws text end))) ≡ y
+  left_by G y m x e n h =
+      ap (λ (z : Next). G (annotate (t ∷ σ) (map_attr D a ∷ map_attrs D attrs) (ahead ws (length text) z (λ end. stream_from m ws text end)))) (sym n)
+      ∙ subst (λ (k : ℕ). G (annotate (t ∷ σ) (map_attr D a ∷ map_attrs D attrs) (stream_from k ws text from)) ≡ y) e h
 
   module _ (p : Piece) (place end : ℕ) (found : next_token text from ≡ token p place end) (α : List Symbol)
-      (x : Around ℕ) (row' : List ℕ) (b e new count' : ℕ) (f' : Firsts)
+      (x : Around ℕ) (row' : List ℕ) (b e new count' : ℕ) (f' : Firsts) (hs' : List ℕ)
       (expands : expand t (class_of (token_of ws p)) ≡ Some α) (surrounds : x ≡ around t (class_of (token_of ws p)) a)
       (named : part_of text b e ≡ name_of (token_of ws p))
       (enters : EnteredRow row row' count (introduces t (class_of (token_of ws p))) x.scope b e new count')
-      (firsts : FirstsAfter asked f f' (note_at t (class_of (token_of ws p)) (map_attr D a) (name_of (token_of ws p))) place) where
+      (firsts : FirstsAfter asked f f' (note_at t (class_of (token_of ws p)) (map_attr D a) (name_of (token_of ws p))) place)
+      (heads : hs' ≡ listed hs (is_unit (note_at t (class_of (token_of ws p)) (map_attr D a) (name_of (token_of ws p))).head) place) where
     abbrev k : Token
     k = token_of ws p
 
@@ -207,21 +224,29 @@ module _ (ws : List Word) (text : List ℕ) (asked : ℕ) (all : List (Note × �
         ∙ ap (λ (z : Around Scope). inherits α (rules t c) (map_attr D a) z (scope_of row' text new) ++ map_attrs D attrs) (there ∙ here)
         ∙ ap (λ (z : Scope). inherits α (rules t c) (map_attr D a) (around t c (map_attr D a)) z ++ map_attrs D attrs) fresh
 
-    -- the first places go on
-    goes_on_lem : (test : Note × ℕ → Bool) (m : ℕ) (old new' : Option ℕ) → s.fuel ≡ suc m →
+    -- what is told of all notes by those before and those left is told after the token too
+    goes_on_lem : {Y : Type 0} (G G' : List (Note × ℕ) → Y) (y : Y) (m : ℕ) → s.fuel ≡ suc m →
+        ((ns : List (Note × ℕ)) → G' ns ≡ G ((note_at t c (map_attr D a) (name_of k), place) ∷ ns)) →
+        G (annotate (t ∷ σ) (map_attr D a ∷ map_attrs D attrs) (stream_from s.fuel ws text from)) ≡ y →
+        G' (annotate (α ++ σ) (map_attrs (scope_of row' text) (inherits α (rules t c) a x new ++ attrs)) (stream_from m ws text end)) ≡ y
+    goes_on_lem G G' y m fe step h =
+        let st = stream_from m ws text end in
+        ap (λ (z : List (Attr Scope)). G' (annotate (α ++ σ) z st)) same_attrs
+        ∙ step (annotate (α ++ σ) (handed t c (map_attr D a) (name_of k) α ++ map_attrs D attrs) st)
+        ∙ ap (λ (o : Option (List Symbol)). G ((note_at t c (map_attr D a) (name_of k), place)
+        ∷ proceed o (λ after. annotate (after ++ σ) (handed t c (map_attr D a) (name_of k) after ++ map_attrs D attrs) st))) (sym expands)
+        ∙ left_by G y m (token p place end) fe found h
+
+    first_on : (test : Note × ℕ → Bool) (m : ℕ) (old new' : Option ℕ) → s.fuel ≡ suc m →
         new' ≡ first_of old (test (note_at t c (map_attr D a) (name_of k), place)) place →
         or_else old (first_where test (annotate (t ∷ σ) (map_attr D a ∷ map_attrs D attrs) (stream_from s.fuel ws text from))) ≡ first_where test all →
-        or_else new' (first_where test (annotate (α ++ σ) (map_attrs (scope_of row' text) (inherits α (rules t c) a x new ++ attrs)) (stream_from m ws text end))) ≡ first_where test all
-    goes_on_lem test m old new' fe is h =
-        let st = stream_from m ws text end in
-        ap (λ (o : Option ℕ). or_else o (first_where test (annotate (α ++ σ) (map_attrs (scope_of row' text) (inherits α (rules t c) a x new ++ attrs)) st))) is
-        ∙ ap (λ (z : List (Attr Scope)). or_else (first_of old (test (note_at t c (map_attr D a) (name_of k), place)) place) (first_where test (annotate (α ++ σ) z st))) same_attrs
-        ∙ or_step test old (note_at t c (map_attr D a) (name_of k)) place (annotate (α ++ σ) (handed t c (map_attr D a) (name_of k) α ++ map_attrs D attrs) st)
-        ∙ ap (λ (o : Option (List Symbol)). or_else old (first_where test ((note_at t c (map_attr D a) (name_of k), place)
-        ∷ proceed o (λ after. annotate (after ++ σ) (handed t c (map_attr D a) (name_of k) after ++ map_attrs D attrs) st)))) (sym expands)
-        ∙ left_by test old m (token p place end) fe found h
+        or_else new' (first_where test (annotate (α ++ σ) (map_attrs (scope_of row' text) (inherits α (rules t c) a x new ++ attrs))
+        (stream_from m ws text end))) ≡ first_where test all
+    first_on test m old new' fe is h =
+        goes_on_lem (λ ns. or_else old (first_where test ns)) (λ ns. or_else new' (first_where test ns)) (first_where test all) m fe
+        (first_goes test old new' (note_at t c (map_attr D a) (name_of k)) place is) h
 
-    pub noting_on : Noting ws text asked all (α ++ σ) (inherits α (rules t c) a x new ++ attrs) row' count' end f'
+    pub noting_on : Noting ws text asked all (α ++ σ) (inherits α (rules t c) a x new ++ attrs) row' count' end f' hs'
     noting_on =
         let fs = step_of s.fuel s.enough in
         let adv = advance text from place end p found in
@@ -230,10 +255,12 @@ module _ (ws : List Word) (text : List ℕ) (asked : ℕ) (all : List (Note × �
         record {
           fuel = fs.0;
           enough = omega (arith, adv.forward, more);
-          deep = goes_on_lem is_too_deep fs.0 f.deep f'.deep fs.1 firsts.deep s.deep;
-          again = goes_on_lem is_again fs.0 f.again f'.again fs.1 firsts.again s.again;
-          missing = goes_on_lem is_undeclared fs.0 f.missing f'.missing fs.1 firsts.missing s.missing;
-          mention = goes_on_lem (names_unit asked) fs.0 f.mention f'.mention fs.1 firsts.mention s.mention;
+          deep = first_on is_too_deep fs.0 f.deep f'.deep fs.1 firsts.deep s.deep;
+          again = first_on is_again fs.0 f.again f'.again fs.1 firsts.again s.again;
+          missing = first_on is_undeclared fs.0 f.missing f'.missing fs.1 firsts.missing s.missing;
+          mention = first_on (names_unit asked) fs.0 f.mention f'.mention fs.1 firsts.mention s.mention;
+          heads = goes_on_lem (λ ns. hs ++ unit_places ns) (λ ns. hs' ++ unit_places ns) (unit_places all) fs.0 fs.1
+              (heads_go hs hs' (note_at t c (map_attr D a) (name_of k)) place heads) s.heads;
           small = small_append count' (2 * end) (inherits α (rules t c) a x new) attrs
               (small_more count' count' (2 * from + 2) (2 * end) (inherits α (rules t c) a x new) (omega arith) (omega (arith, adv.forward))
               (small_inherits count count' (2 * from) new α (rules t c) a x enters.grown enters.within s.small.0 small_x))
@@ -242,14 +269,12 @@ module _ (ws : List Word) (text : List ℕ) (asked : ℕ) (all : List (Note × �
         }
 
   -- at the end one note is left
-  pub noted_end : (test : Note × ℕ → Bool) (old : Option ℕ) → next_token text from ≡ at_end →
-      or_else old (first_where test (annotate (t ∷ σ) (map_attr D a ∷ map_attrs D attrs) (stream_from s.fuel ws text from))) ≡ first_where test all →
-      first_of old (test (note_at t Class.TextEnd (map_attr D a) [], length text)) (length text) ≡ first_where test all
-  noted_end test old n h =
-      let fs = step_of s.fuel s.enough in
-      last old ∙ left_by test old fs.0 at_end fs.1 n h
-    where
-      last : (o : Option ℕ) → first_of o (test (note_at t Class.TextEnd (map_attr D a) [], length text)) (length text)
-          ≡ or_else o (first_where test ((note_at t Class.TextEnd (map_attr D a) [], length text) ∷ []))
-      last None = refl
-      last (Some q) = refl
+  pub noted_end : {Y : Type 0} (G : List (Note × ℕ) → Y) (y : Y) → next_token text from ≡ at_end →
+      G (annotate (t ∷ σ) (map_attr D a ∷ map_attrs D attrs) (stream_from s.fuel ws text from)) ≡ y →
+      G ((note_at t Class.TextEnd (map_attr D a) [], length text) ∷ []) ≡ y
+  noted_end G y n h = let fs = step_of s.fuel s.enough in left_by G y fs.0 at_end fs.1 n h
+
+-- the last note completes a first place
+pub first_ends : (test : Note × ℕ → Bool) (old : Option ℕ) (n : Note) (p : ℕ) → first_of old (test (n, p)) p ≡ or_else old (first_where test ((n, p) ∷ []))
+first_ends test None n p = refl
+first_ends test (Some q) n p = refl

@@ -398,6 +398,11 @@ abbrev pub first_where : (Note × ℕ → Bool) → List (Note × ℕ) → Optio
 first_where test [] = None
 first_where test (n ∷ ns) = cond (test n) (Some n.1) (first_where test ns)
 
+-- the places of the heads that name units
+abbrev pub unit_places : List (Note × ℕ) → List ℕ
+unit_places [] = []
+unit_places (n ∷ ns) = cond (is_unit n.0.head) (n.1 ∷ unit_places ns) (unit_places ns)
+
 -- the questions about a text that reads, each asked of the whole text before the next: is too much open at a token, is a name
 -- declared again, is a lower head not declared
 abbrev pub ask : (ℕ → ReadFault) → Option ℕ → Option ReadFault → Option ReadFault

@@ -1,12 +1,16 @@
 -- The second pass, step by step: the first bad places so far, the name of a token as a part of the text, and what is entered.
-use Rattle.std.specs.Prelude.{◌≡◌, ℕ, ◌+◌, ◌≤◌, Bool, cond, List, [], ◌∷◌, Some, None, Ok, Err, Option, Result}
+use Rattle.std.specs.Prelude.{◌≡◌, ℕ, ◌+◌, ◌≤◌, Bool, cond, List, [], ◌∷◌, ◌++◌, Some, None, Ok, Err, Option, Result}
 use Rattle.reader.specs.declared.class.Class.{Class}
 use Rattle.reader.specs.declared.fault.ReadFault.{ReadFault}
 use Rattle.reader.specs.declared.parse.Start.{Start}
 use Rattle.reader.specs.declared.scope.Binder.{Binder}
 use Rattle.reader.specs.declared.fault.ReadFault.TheVariants.{TooDeep, Redeclared, Undeclared}
-use Rattle.reader.specs.Annotate.{is, ask, entered, Attr, both}
-use Rattle.reader.specs.Notes.{outermost}
+use Rattle.cores.specs.Meaning.{Word}
+use Rattle.reader.specs.declared.symbol.Symbol.{Symbol}
+use Rattle.reader.specs.Annotate.{is, ask, entered, Attr, both, inherits, annotate}
+use Rattle.reader.specs.Notes.{Note, Around, outermost}
+use Rattle.reader.specs.Parsing.{start_of}
+use Rattle.reader.specs.Streams.{stream_of}
 use Rattle.reader.specs.Rows.{scope_of, part_of}
 use Rattle.reader.specs.Scopes.{Scope}
 
@@ -14,6 +18,10 @@ use Rattle.reader.specs.Scopes.{Scope}
 abbrev pub first_of : Option ℕ → Bool → ℕ → Option ℕ
 first_of None bad p = cond bad (Some p) None
 first_of (Some q) bad p = Some q
+
+-- the places so far, with this one behind them if it is wanted
+abbrev pub listed : List ℕ → Bool → ℕ → List ℕ
+listed ps wanted p = cond wanted (ps ++ p ∷ []) ps
 
 -- where a token's name stands; an empty part where it is no name
 abbrev pub span_of : Class → ℕ → ℕ → ℕ × ℕ
@@ -39,3 +47,15 @@ answered (Some e) = Err e
 abbrev pub start_attrs : Start → List (Attr Scope)
 start_attrs Start.«Unit» = both outermost ∷ []
 start_attrs Start.Signature = both outermost ∷ both outermost ∷ []
+
+-- the notes of a text, by what it is read as
+abbrev pub text_notes : Start → List Word → List ℕ → List (Note × ℕ)
+text_notes start ws text = annotate (start_of start) (start_attrs start) (stream_of ws text)
+
+-- nothing is open, and the scope is that of no entry
+abbrev pub root : Around ℕ
+root = record { opened = 0; scope = 0 }
+
+-- what the first symbols get
+abbrev pub root_attrs : List Symbol → List (Attr ℕ)
+root_attrs xs = inherits xs [] (both root) root 0

@@ -1,8 +1,8 @@
 // What a token is told in the second pass: how many are open at it, whether it declares a name again, whether it is a head
 // that is not declared; and what it enters into the scope.
-ghost use Rattle.std.specs.Prelude.{◌≡◌, ℕ, ◌+◌, ◌*◌, ◌^◌, ◌<◌, ◌≤◌, ◌&&◌, List, length, nat_le, nat_lt};
+ghost use Rattle.std.specs.Prelude.{◌≡◌, ℕ, ◌+◌, ◌*◌, ◌^◌, ◌<◌, ◌≤◌, ◌&&◌, List, length, take, nat_le, nat_lt};
 ghost use Rattle.reader.specs.Annotate.{around, extra, raised, declaring, again_of, head_kind, head_of, is_missing, is_unit};
-ghost use Rattle.reader.specs.Firsts.{first_of, span_of, EnteredRow, ask_firsts, answered};
+ghost use Rattle.reader.specs.Firsts.{first_of, listed, span_of, EnteredRow, ask_firsts, answered};
 ghost use Rattle.reader.specs.Frames.{placed, attr_of};
 ghost use Rattle.reader.specs.Rows.{scope_of};
 
@@ -180,6 +180,21 @@ pub fn noted(
             names_unit(row, text, place, symbol, class, name) && asked <= at,
             at,
         ),
+    }
+}
+
+// Lists a place behind so many, if it is wanted, and tells how many are listed then. Constant time.
+pub(crate) fn list_place(places: &mut [u32], count: usize, wanted: bool, place: usize) -> usize
+    requires count_in_bounds { count < length places.old }
+    requires place_bound { place < 2 ^ 32 }
+    ensures places { take result places.new ≡ listed (take count places.old) wanted place }
+    ensures few { result ≤ count + 1 }
+{
+    if wanted {
+        places[count] = place as u32;
+        count + 1
+    } else {
+        count
     }
 }
 

@@ -1,14 +1,17 @@
 // Reading a unit or a signature: the questions in their order.
 ghost use Rattle.std.specs.Prelude.{◌≡◌, length};
 ghost use Rattle.tokens.specs.Lexer.{next_token};
-ghost use Rattle.reader.specs.Mentions.{mention_answer, MentionMeaning};
+ghost use Rattle.reader.specs.Mentions.{mention_answer, MentionMeaning, head_name, heads_answer, HeadsMeaning, Inside};
 ghost use Rattle.reader.specs.Answers.{headed, name_in, upper_at, unit_answer, UnitMeaning, signature_answer, SignatureMeaning};
-ghost use Rattle.reader.specs.Named.{named_at, mentioned};
+ghost use Rattle.reader.specs.Named.{named_at, mentioned, held};
+ghost use Rattle.reader.specs.Notes.{notes_unit, notes_signature_text};
+ghost use Rattle.reader.specs.Print.{print_unit, print_signature_text};
 ghost use Rattle.reader.specs.Reading.{OneTree, PrintsAreRead};
+ghost use Rattle.reader.specs.View.{shown};
 
 use super::fault::ReadFault;
 use super::parse::{Start, parse};
-use super::statics::{HALF, ask_statics, unit_mention};
+use super::statics::{HALF, ask_statics, list_heads, unit_mention};
 use cores::interface::Core;
 use tokens::lexer::next;
 use tokens::token::Token;
@@ -132,5 +135,63 @@ pub fn mentioned_unit<'a, C: Core>(
     match unit_mention(core, text, frames, row, from)? {
         Some(place) => Ok(name_at(text, place)),
         None => Ok(None),
+    }
+}
+
+// The places of the heads of a text that name units, in the text's order, in a part of the scratch.
+// Linear in the text times what is declared around its names.
+fn heads_of<'s, C: Core>(
+    core: &C,
+    text: &[u8],
+    scratch: &'s mut [u32],
+    start: Start,
+) -> Result<&'s [u32], ReadFault>
+    ensures { held result ≡ heads_answer start C.Core.words text.now (length scratch.old) }
+{
+    if scratch.len() != SCRATCH_WORDS {
+        return Err(ReadFault::Scratch);
+    }
+    if text.len() > TEXT_LIMIT {
+        return Err(ReadFault::TooLong);
+    }
+    parse(core, text, scratch, start)?;
+    list_heads(core, text, scratch, start)
+}
+
+// The places of the heads of a unit's text that name units, in the text's order, in a part of the scratch. The questions about
+// what is open and declared are not asked. Linear in the text times what is declared around its names.
+pub fn unit_heads<'s, C: Core>(
+    core: &C,
+    text: &[u8],
+    scratch: &'s mut [u32],
+) -> Result<&'s [u32], ReadFault>
+    ensures answer { held result ≡ heads_answer Start.«Unit» C.Core.words text.now (length scratch.old) }
+    ensures meaning { HeadsMeaning print_unit notes_unit C.Core.words text.now (length scratch.old) (held result) }
+    ensures inside { Inside (length text.now) (held result) }
+{
+    heads_of(core, text, scratch, Start::Unit)
+}
+
+// The same of the text of a signature alone.
+pub fn signature_heads<'s, C: Core>(
+    core: &C,
+    text: &[u8],
+    scratch: &'s mut [u32],
+) -> Result<&'s [u32], ReadFault>
+    ensures answer { held result ≡ heads_answer Start.Signature C.Core.words text.now (length scratch.old) }
+    ensures meaning { HeadsMeaning print_signature_text notes_signature_text C.Core.words text.now (length scratch.old) (held result) }
+    ensures inside { Inside (length text.now) (held result) }
+{
+    heads_of(core, text, scratch, Start::Signature)
+}
+
+// The upper name that is the next token from a place on, if it is one: at the place of a head, the name of the head.
+// Linear in the text from there to its end.
+pub fn head_name(text: &[u8], place: usize) -> Option<&[u8]>
+    ensures { shown result ≡ head_name text.now place }
+{
+    match name_at(text, place) {
+        Some((name, _)) => Some(name),
+        None => None,
     }
 }

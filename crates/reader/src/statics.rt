@@ -1,8 +1,10 @@
 // The second pass over a text that reads: the questions about what is open and what is declared.
 ghost use Rattle.std.specs.Prelude.{◌≡◌, ◌≤◌, true, length, Ok};
-ghost use Rattle.reader.specs.Annotate.{annotate, static_fault, first_where, names_unit};
-ghost use Rattle.reader.specs.Firsts.{start_attrs, answered};
-ghost use Rattle.reader.specs.Surveys.{SurveyOf};
+ghost use Rattle.reader.specs.Annotate.{annotate, static_fault, first_where, names_unit, unit_places};
+ghost use Rattle.reader.specs.Firsts.{start_attrs, root_attrs, text_notes, answered};
+ghost use Rattle.reader.specs.Frames.{symbols_of, attrs_of};
+ghost use Rattle.reader.specs.Named.{held};
+ghost use Rattle.reader.specs.Surveys.{SurveyOf, ListingOf, firsts_alone};
 ghost use Rattle.reader.specs.Parsing.{start_of, is_accepted};
 ghost use Rattle.reader.specs.Reading.{reads, default_rank, unit_start};
 ghost use Rattle.reader.specs.Streams.{stream_of};
@@ -12,7 +14,7 @@ use super::class::Class;
 use super::classify::class_of;
 use super::fault::ReadFault;
 use super::frame::{Frame, Place, frame_at, push_frames, symbol_at};
-use super::notes::{Firsts, enter, noted, place_of, span, verdict};
+use super::notes::{Firsts, enter, list_place, names_unit, noted, place_of, span, verdict};
 use super::parse::Start;
 use super::row::part;
 use super::table::expand;
@@ -22,21 +24,15 @@ use tokens::lexer::next;
 // The words for frames, and the words for scopes.
 pub const HALF: usize = 32_768;
 
-// Goes through a text that reads, and tells the first places where too much is open, where a name is declared again, where a lower
-// head is not declared, and where, at or behind a place, a head names a unit. Linear in the text times what is declared around its names.
-fn survey<C: Core>(
-    core: &C,
-    text: &[u8],
-    frames: &mut [u32],
-    row: &mut [u32],
-    start: Start,
-    asked: usize,
-) -> Result<Firsts, ReadFault>
-    requires text_len_bound { length text.now ≤ 4_000 }
-    requires frames_len { length frames.old ≡ 32_768 }
-    requires row_len { length row.old ≡ 32_768 }
-    requires accepted { is_accepted (reads (start_of start) (stream_of C.Core.words text.now) default_rank) ≡ true }
-    ensures { SurveyOf asked (annotate (start_of start) (start_attrs start) (stream_of C.Core.words text.now)) result }
+// Of the words for scopes those that scopes take: four for each entry, and at most one entry for each byte. The rest is for the
+// places of heads.
+const ROW_WORDS: usize = 16_384;
+
+// Pushes the frames of what is to be read, and tells how many they are. Constant time.
+fn begin(frames: &mut [u32], start: Start) -> usize
+    requires { length frames.old ≡ 32_768 }
+    ensures symbols { symbols_of frames.new result ≡ start_of start }
+    ensures attrs { attrs_of frames.new result ≡ root_attrs (start_of start) }
 {
     let outermost = Place {
         opened: 0,
@@ -46,8 +42,32 @@ fn survey<C: Core>(
         inner: outermost,
         outer: outermost,
     };
-    let mut depth = push_frames(frames, 0, start.symbols(), &[], whole, outermost, 0);
+    push_frames(frames, 0, start.symbols(), &[], whole, outermost, 0)
+}
+
+// Goes through a text that reads, and tells the first places where too much is open, where a name is declared again, where a lower
+// head is not declared, and where, at or behind a place, a head names a unit; lists the places of all heads that name units, and
+// tells how many they are. Linear in the text times what is declared around its names.
+fn survey_all<C: Core>(
+    core: &C,
+    text: &[u8],
+    frames: &mut [u32],
+    row: &mut [u32],
+    places: &mut [u32],
+    start: Start,
+    asked: usize,
+) -> Result<(Firsts, usize), ReadFault>
+    requires text_len_bound { length text.now ≤ 4_000 }
+    requires frames_len { length frames.old ≡ 32_768 }
+    requires row_len { length row.old ≡ 16_384 }
+    requires places_len { length places.old ≡ 16_384 }
+    requires accepted { is_accepted (reads (start_of start) (stream_of C.Core.words text.now) default_rank) ≡ true }
+    ensures firsts { SurveyOf asked (text_notes start C.Core.words text.now) (firsts_alone result) }
+    ensures heads { ListingOf (text_notes start C.Core.words text.now) result places.new }
+{
+    let mut depth = begin(frames, start);
     let mut count = 0;
+    let mut heads = 0;
     let mut firsts = Firsts {
         deep: None,
         again: None,
@@ -64,6 +84,7 @@ fn survey<C: Core>(
         let frame = frame_at(frames, depth - 1);
         let place = place_of(symbol, class, frame);
         let name = span(class, found.place, found.end);
+        let spelled = part(text, name.0, name.1);
         firsts = noted(
             firsts,
             row,
@@ -71,10 +92,12 @@ fn survey<C: Core>(
             symbol,
             class,
             place,
-            part(text, name.0, name.1),
+            spelled,
             found.place,
             asked,
         );
+        let is_head = names_unit(row, text, place, symbol, class, spelled);
+        heads = list_place(places, heads, is_head, found.place);
         let entered = enter(
             row,
             count,
@@ -97,7 +120,7 @@ fn survey<C: Core>(
     }
     let last = symbol_at(frames, depth - 1);
     let place = place_of(last, Class::TextEnd, frame_at(frames, depth - 1));
-    Ok(noted(
+    let told = noted(
         firsts,
         row,
         text,
@@ -107,7 +130,31 @@ fn survey<C: Core>(
         &[],
         text.len(),
         asked,
-    ))
+    );
+    Ok((told, heads))
+}
+
+// Goes through a text that reads, and tells the first places where too much is open, where a name is declared again, where a lower
+// head is not declared, and where, at or behind a place, a head names a unit. Linear in the text times what is declared around its names.
+fn survey<C: Core>(
+    core: &C,
+    text: &[u8],
+    frames: &mut [u32],
+    row: &mut [u32],
+    start: Start,
+    asked: usize,
+) -> Result<Firsts, ReadFault>
+    requires text_len_bound { length text.now ≤ 4_000 }
+    requires frames_len { length frames.old ≡ 32_768 }
+    requires row_len { length row.old ≡ 32_768 }
+    requires accepted { is_accepted (reads (start_of start) (stream_of C.Core.words text.now) default_rank) ≡ true }
+    ensures { SurveyOf asked (annotate (start_of start) (start_attrs start) (stream_of C.Core.words text.now)) result }
+{
+    let (scopes, places) = row.split_at_mut(ROW_WORDS);
+    match survey_all(core, text, frames, scopes, places, start, asked) {
+        Ok((firsts, _)) => Ok(firsts),
+        Err(fault) => Err(fault),
+    }
 }
 
 // Asks a text that reads whether too much is open at a token, whether a name is declared again, and whether a lower head is
@@ -146,4 +193,22 @@ pub fn unit_mention<C: Core>(
 {
     let firsts = survey(core, text, frames, row, Start::Unit, asked)?;
     Ok(firsts.mention)
+}
+
+// The places of the heads that name units, of a text that reads. Linear in the text times what is declared around its names.
+pub(crate) fn list_heads<'s, C: Core>(
+    core: &C,
+    text: &[u8],
+    scratch: &'s mut [u32],
+    start: Start,
+) -> Result<&'s [u32], ReadFault>
+    requires text_len_bound { length text.now ≤ 4_000 }
+    requires scratch_len { length scratch.old ≡ 65_536 }
+    requires accepted { is_accepted (reads (start_of start) (stream_of C.Core.words text.now) default_rank) ≡ true }
+    ensures { held result ≡ Ok (unit_places (text_notes start C.Core.words text.now)) }
+{
+    let (frames, rest) = scratch.split_at_mut(HALF);
+    let (row, places) = rest.split_at_mut(ROW_WORDS);
+    let (_, heads) = survey_all(core, text, frames, row, places, start, 0)?;
+    Ok(&places[..heads])
 }
