@@ -6,7 +6,11 @@ mod tests {
     use cores::interface::Core;
     use cores::mini_c::MiniC;
     use cores::mini_ml::MiniMl;
-    use reader::read::{SCRATCH_WORDS, mentioned_unit, read_signature, read_unit};
+    use reader::fault::ReadFault;
+    use reader::read::{
+        SCRATCH_WORDS, head_name, mentioned_unit, read_signature, read_unit, signature_heads,
+        unit_heads,
+    };
     use std::test::Fail;
 
     // The question and the place of a refusal; 0 and the rank of a unit that reads.
@@ -31,6 +35,39 @@ mod tests {
             Ok(Some((_, place))) => Some(place),
             _ => None,
         }
+    }
+
+    // How many heads name units, with the place of one of them and the first byte of its name; or the question and place of a refusal.
+    fn one_of(
+        text: &[u8],
+        heads: Result<&[u32], ReadFault>,
+        i: usize,
+    ) -> (usize, Option<usize>, Option<u8>) {
+        match heads {
+            Ok(places) => {
+                if i < places.len() {
+                    let place = places[i] as usize;
+                    let first = match head_name(text, place) {
+                        Some([b, ..]) => Some(*b),
+                        _ => None,
+                    };
+                    (places.len(), Some(place), first)
+                } else {
+                    (places.len(), None, None)
+                }
+            }
+            Err(fault) => (usize::from(fault.number()), fault.place(), None),
+        }
+    }
+
+    // That of a unit's text over the first core.
+    fn listed(text: &[u8], scratch: &mut [u32], i: usize) -> (usize, Option<usize>, Option<u8>) {
+        one_of(text, unit_heads(&MiniMl, text, scratch), i)
+    }
+
+    // That of the text of a signature.
+    fn signed(text: &[u8], scratch: &mut [u32], i: usize) -> (usize, Option<usize>, Option<u8>) {
+        one_of(text, signature_heads(&MiniMl, text, scratch), i)
     }
 
     #[test]
@@ -203,6 +240,163 @@ mod tests {
                 scratch
             ),
             (4, Some(168))
+        );
+        Ok(())
+    }
+
+    #[test]
+    fn heads_that_name_units(rt: HostRuntime) -> Result<(), Fail> {
+        let mut words = vec![in rt.alloc(); 0u32; SCRATCH_WORDS]?;
+        let scratch = words.as_mut_slice();
+        assert_eq!(rt;
+            listed(b"module U = struct let x = 1 let y = x end", scratch, 0),
+            (0, None, None)
+        );
+        assert_eq!(rt;
+            listed(
+                b"module U = struct let y = A.x module M = F(G)(A.N) end",
+                scratch,
+                0
+            ),
+            (4, Some(26), Some(b'A'))
+        );
+        assert_eq!(rt;
+            listed(
+                b"module U = struct let y = A.x module M = F(G)(A.N) end",
+                scratch,
+                1
+            ),
+            (4, Some(41), Some(b'F'))
+        );
+        assert_eq!(rt;
+            listed(
+                b"module U = struct let y = A.x module M = F(G)(A.N) end",
+                scratch,
+                2
+            ),
+            (4, Some(43), Some(b'G'))
+        );
+        assert_eq!(rt;
+            listed(
+                b"module U = struct let y = A.x module M = F(G)(A.N) end",
+                scratch,
+                3
+            ),
+            (4, Some(46), Some(b'A'))
+        );
+        assert_eq!(rt;
+            listed(
+                b"module U = struct let y = A.x module M = F(G)(A.N) end",
+                scratch,
+                4
+            ),
+            (4, None, None)
+        );
+        assert_eq!(rt;
+            listed(b"module U = struct let x = 1 let y = U.x end", scratch, 0),
+            (1, Some(36), Some(b'U'))
+        );
+        assert_eq!(rt;
+            listed(b"module U = struct let x = y let z = A.x end", scratch, 0),
+            (1, Some(36), Some(b'A'))
+        );
+        Ok(())
+    }
+
+    #[test]
+    fn heads_declared_around(rt: HostRuntime) -> Result<(), Fail> {
+        let mut words = vec![in rt.alloc(); 0u32; SCRATCH_WORDS]?;
+        let scratch = words.as_mut_slice();
+        assert_eq!(rt;
+            listed(
+                b"module U = struct let y = A.x module A = struct let x = 1 end let z = A.x end",
+                scratch,
+                0
+            ),
+            (1, Some(26), Some(b'A'))
+        );
+        assert_eq!(rt;
+            listed(b"module U = struct module A = A end", scratch, 0),
+            (1, Some(29), Some(b'A'))
+        );
+        assert_eq!(rt;
+            listed(
+                b"module U = struct module F = functor (X : sig val v : int end) -> struct let y = X.v end module M = X end",
+                scratch,
+                0
+            ),
+            (1, Some(100), Some(b'X'))
+        );
+        assert_eq!(rt;
+            listed(
+                b"module U = struct module F = functor (X : sig val v : X.t end) -> X end",
+                scratch,
+                0
+            ),
+            (1, Some(54), Some(b'X'))
+        );
+        Ok(())
+    }
+
+    #[test]
+    fn heads_in_signatures_and_types(rt: HostRuntime) -> Result<(), Fail> {
+        let mut words = vec![in rt.alloc(); 0u32; SCRATCH_WORDS]?;
+        let scratch = words.as_mut_slice();
+        assert_eq!(rt;
+            listed(
+                b"module U = struct module M = (N : sig type t = A.t val v : B.t end) type u = C.t end",
+                scratch,
+                1
+            ),
+            (4, Some(47), Some(b'A'))
+        );
+        assert_eq!(rt;
+            listed(
+                b"module U = struct module M = (N : sig type t = A.t val v : B.t end) type u = C.t end",
+                scratch,
+                2
+            ),
+            (4, Some(59), Some(b'B'))
+        );
+        assert_eq!(rt;
+            listed(
+                b"module U = struct module M = (N : sig type t = A.t val v : B.t end) type u = C.t end",
+                scratch,
+                3
+            ),
+            (4, Some(77), Some(b'C'))
+        );
+        assert_eq!(rt;
+            signed(
+                b"sig module M : sig val v : A.t end val w : M.t end",
+                scratch,
+                0
+            ),
+            (1, Some(27), Some(b'A'))
+        );
+        assert_eq!(rt;
+            signed(
+                b"functor (X : sig end) -> sig val v : X.t val w : Y.t end",
+                scratch,
+                0
+            ),
+            (1, Some(49), Some(b'Y'))
+        );
+        Ok(())
+    }
+
+    #[test]
+    fn heads_refused(rt: HostRuntime) -> Result<(), Fail> {
+        let mut words = vec![in rt.alloc(); 0u32; SCRATCH_WORDS]?;
+        let scratch = words.as_mut_slice();
+        assert_eq!(rt;
+            listed(b"module U = struct end", &mut [], 0),
+            (1, None, None)
+        );
+        assert_eq!(rt; listed(&[b'('; 4001], scratch, 0), (2, None, None));
+        assert_eq!(rt;
+            listed(b"module U = struct A end", scratch, 0),
+            (3, Some(18), None)
         );
         Ok(())
     }
