@@ -1,14 +1,12 @@
 -- How the table names what is asked.
 use Rattle.std.specs.Prelude.{ℕ, cond, List, Some, None, codes, Option}
 use Rattle.std.specs.Str.{bytes_eq}
-use Rattle.types.specs.Words.{word_of}
 use Rattle.cores.specs.Meaning.{Word, lookup}
 use Rattle.cores.specs.declared.interface.Kind.{Kind}
 use Rattle.cores.specs.declared.interface.Kind.TheVariants.{Label, Operator as Operates}
 use Rattle.cores.specs.declared.interface.Found.{Found}
 use Rattle.cores.specs.declared.interface.Operation.{Operation}
 use Rattle.cores.specs.declared.interface.Operation.TheVariants.{Literal, Function, Operator}
-use Rattle.types.specs.declared.words.Node.TheVariants.{Label0, Label1, Label2}
 
 -- a word that is an operator
 abbrev pub if_operator : ℕ → Kind → Option Operation

@@ -1,5 +1,7 @@
 // Prints, for each shipped stack of layers, its words, and what it answers to a table of questions.
 // A question is an operation and its arguments; a type is written with each label before its parts, a leaf as `#` and its number.
+#![tactic(auto)]
+
 mod questions;
 mod tables;
 #[cfg(test)]

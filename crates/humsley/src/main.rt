@@ -1,4 +1,6 @@
 // humsley FILE..: gives an account of each unit text; with no argument, of the sample that the repository ships.
+#![tactic(auto)]
+
 use account::run::run;
 
 // The sample, as seen from the root of the repository.

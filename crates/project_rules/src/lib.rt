@@ -1,5 +1,7 @@
 // The check of a whole project, and fit, as definitions over units whose heads are found, and what holds of them over every core.
 // Nothing is computed here: each function carries a theorem about the definitions in specs/, and takes constant time.
+#![tactic(auto)]
+
 ghost use Rattle.project_rules.specs.Samples.{OrderSamples, CheckSamples, FitSamples};
 ghost use Rattle.project_rules.specs.Statements.{ViewMeans, AcceptanceLaw, OrderLaw, AnswersMean, ArrangingLaw, FitAnywhere, FitLaw, FitAnswersMean, ListOrderFree};
 
