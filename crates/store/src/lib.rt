@@ -1,4 +1,6 @@
 // The store of a project: units in lent memory, under a directory that holds no name twice.
+#![tactic(auto)]
+
 pub mod directory;
 pub mod edit;
 pub mod entry;

@@ -5,20 +5,20 @@ use Rattle.store.specs.Entries.{blank, sound, absent, well}
 use Rattle.store.proofs.Seats.{well_step}
 use Rattle.store.proofs.edit.is_lawful.Goals as goal
 
-pub returns-then-not-is-sound : goal.returns-then-not-is-sound
-returns-then-not-is-sound c =
+pub returns-then-not-is_sound : goal.returns-then-not-is_sound
+returns-then-not-is_sound c =
     let es = c.args.entries.now in
     let i = c.loop-i.i in
     let e = get_or es i blank in
     sym (and_right (leb (length es) 16) (well es) (c.loop-i.invariant ∙ well_step i es blank (omega arith)
-    ∙ and_left (sound e) (absent e.name (drop (i + 1) es) && well (drop (i + 1) es)) (sym c.if-not-is-sound.ensures)))
+    ∙ and_left (sound e) (absent e.name (drop (i + 1) es) && well (drop (i + 1) es)) (sym c.if-not-is_sound.ensures)))
 
-pub returns-then-not-is-absent : goal.returns-then-not-is-absent
-returns-then-not-is-absent c =
+pub returns-then-not-is_absent : goal.returns-then-not-is_absent
+returns-then-not-is_absent c =
     let es = c.args.entries.now in
     let i = c.loop-i.i in
     let e = get_or es i blank in
-    let gone : absent e.name (drop (i + 1) es) ≡ false = ap (absent e.name) (sym (take_rest es (i + 1))) ∙ sym c.if-not-is-absent.ensures in
+    let gone : absent e.name (drop (i + 1) es) ≡ false = ap (absent e.name) (sym (take_rest es (i + 1))) ∙ sym c.if-not-is_absent.ensures in
     sym (and_right (leb (length es) 16) (well es) (c.loop-i.invariant ∙ well_step i es blank (omega arith)
     ∙ and_right (sound e) (absent e.name (drop (i + 1) es) && well (drop (i + 1) es)) (and_left (absent e.name (drop (i + 1) es)) (well (drop (i + 1) es)) gone)))
 
@@ -27,9 +27,9 @@ loop-i-preserved c =
     let es = c.args.entries.now in
     let i = c.loop-i.i in
     let e = get_or es i blank in
-    let here : absent e.name (drop (i + 1) es) ≡ true = ap (absent e.name) (sym (take_rest es (i + 1))) ∙ sym c.if-not-is-absent.ensures in
+    let here : absent e.name (drop (i + 1) es) ≡ true = ap (absent e.name) (sym (take_rest es (i + 1))) ∙ sym c.if-not-is_absent.ensures in
     c.loop-i.invariant ∙ well_step i es blank (omega arith)
-    ∙ ap (λ t. t && (absent e.name (drop (i + 1) es) && well (drop (i + 1) es))) (sym c.if-not-is-sound.ensures)
+    ∙ ap (λ t. t && (absent e.name (drop (i + 1) es) && well (drop (i + 1) es))) (sym c.if-not-is_sound.ensures)
     ∙ ap (λ t. t && well (drop (i + 1) es)) here
 
 pub returns : goal.returns

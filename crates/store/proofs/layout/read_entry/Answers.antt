@@ -4,9 +4,9 @@ use Rattle.store.proofs.layout.read_entry.Goals as goal
 pub returns : goal.returns
 unfolding record_at
 returns c =
-    let a = c.read-number.ensures.value in
-    let b = c.read-number-2.ensures.value in
-    let d = c.read-number-3.ensures.value in
-    let e = c.read-number-4.ensures.value in
-    let f = c.read-number-5.ensures.value in
+    let a = c.read_number.ensures.value in
+    let b = c.read_number-2.ensures.value in
+    let d = c.read_number-3.ensures.value in
+    let e = c.read_number-4.ensures.value in
+    let f = c.read_number-5.ensures.value in
     cc

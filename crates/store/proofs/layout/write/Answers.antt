@@ -18,10 +18,10 @@ loop-i-preserved c =
     let long : length d.entries ≡ 16 = d.long in
     let whole = length-take-le d.count d.entries (omega arith) in
     let same = get_or-take d.count d.entries i blank (omega arith) in
-    c.write-entry.ensures
+    c.write_entry.ensures
     ∙ ap (λ e. laid (1 + 22 * i) (record_bytes e) c.loop-i.store) (sym same)
     ∙ ap (λ s. laid (1 + 22 * i) (record_bytes (get_or (live d) i blank)) s) c.loop-i.invariant
-    ∙ laid_records i (live d) c.write-number.new.bytes (omega arith) (omega arith)
+    ∙ laid_records i (live d) c.write_number.new.bytes (omega arith) (omega arith)
 
 pub returns : goal.returns
 returns c =
@@ -34,8 +34,8 @@ returns c =
     let is : eqb (length s) 65536 ≡ true = eq-eqb (length s) 65536 (omega arith) in
     let bytes : c.loop-i.store ≡ laid 0 (encode (live d)) s =
     c.loop-i.invariant
-    ∙ ap (λ es. laid 1 (flat_map record_bytes es) c.write-number.new.bytes) all
-    ∙ ap (laid 1 (flat_map record_bytes (live d))) (c.write-number.ensures ∙ ap (λ n. laid 0 (spread 1 n) s) (sym whole))
+    ∙ ap (λ es. laid 1 (flat_map record_bytes es) c.write_number.new.bytes) all
+    ∙ ap (laid 1 (flat_map record_bytes (live d))) (c.write_number.ensures ∙ ap (λ n. laid 0 (spread 1 n) s) (sym whole))
     ∙ laid_directory (live d) s in
     let size = length_laid 0 (encode (live d)) s (omega (arith, length_encode (live d))) in
     record {

@@ -12,6 +12,6 @@ whole a zs x e h = e ∙ ap (λ t. a ++ t) (drop_all (0 + length a) zs (omega ar
 pub returns : goal.returns
 returns c =
     let n = c.args.name in
-    let value : c.write-number.new.bytes ≡ spread 16 n = whole (spread 16 n) _ c.write-number.new.bytes c.write-number.ensures (omega (arith, length_spread 16 n)) in
+    let value : c.write_number.new.bytes ≡ spread 16 n = whole (spread 16 n) _ c.write_number.new.bytes c.write_number.ensures (omega (arith, length_spread 16 n)) in
     let small : n < 256 ^ 16 = omega arith in
     record { value = value; law = λ bs u e. value ∙ spells n small bs u e }

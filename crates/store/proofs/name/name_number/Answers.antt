@@ -32,20 +32,20 @@ returns-then-b-eq0 c =
     let bs = c.args.bytes.now in
     let none : None ≡ name_number bs = no_number bs (and_right (ltb 0 (length bs)) (leb (length bs) 16 && no_zero bs)
     (and_right (leb (length bs) 16) (no_zero bs) (zero_found bs c.loop-b.b-index (omega arith) c.if-b-eq0.true))) in
-    record { value = none; law = ordered bs None (under_from bs (λ k. omega (arith, c.type-inv.bytes k))) none }
+    record { value = none; law = ordered bs None (under_from bs (λ k. omega (arith, c.type_inv.bytes k))) none }
 
-pub overflow-mul-value : goal.overflow-mul-value
-overflow-mul-value c = omega (arith, below_power c.loop-b.value c.loop-b.b-index 15 c.loop-b.invariant.2 (omega arith))
+pub overflow_mul-value : goal.overflow_mul-value
+overflow_mul-value c = omega (arith, below_power c.loop-b.value c.loop-b.b-index 15 c.loop-b.invariant.2 (omega arith))
 
-pub overflow-add-value : goal.overflow-add-value
-overflow-add-value c =
-    omega (arith, below_power c.loop-b.value c.loop-b.b-index 15 c.loop-b.invariant.2 (omega arith), c.type-inv.bytes c.loop-b.b-index, c.from.ensures)
+pub overflow_add-value : goal.overflow_add-value
+overflow_add-value c =
+    omega (arith, below_power c.loop-b.value c.loop-b.b-index 15 c.loop-b.invariant.2 (omega arith), c.type_inv.bytes c.loop-b.b-index, c.from.ensures)
 
 pub loop-b-preserved : goal.loop-b-preserved
 loop-b-preserved c =
     let i = c.loop-b.b-index in
     let bs = c.args.bytes.now in
-    let small : c.from.result < 256 = omega (arith, c.type-inv.bytes i, c.from.ensures) in (
+    let small : c.from.result < 256 = omega (arith, c.type_inv.bytes i, c.from.ensures) in (
       one_more bs i (omega arith) c.if-b-eq0.false c.loop-b.invariant.0,
       ap (λ v. v * 256 + c.from.result) c.loop-b.invariant.1 ∙ ap (λ b. gather (take i bs) * 256 + b) c.from.ensures ∙ sym (number_more 256 bs i (omega arith)),
       next_below c.loop-b.value c.from.result i c.loop-b.invariant.2 small,
@@ -62,8 +62,8 @@ loop-i-init c =
       below_power c.loop-b.value i (length bs) c.loop-b.invariant.2 (omega arith),
     )
 
-pub overflow-mul-value-in-loop-i : goal.overflow-mul-value-in-loop-i
-overflow-mul-value-in-loop-i c = omega (arith, below_power c.loop-i.value c.loop-i.-i 15 c.loop-i.invariant.2 (omega arith))
+pub overflow_mul-value-in-loop-i : goal.overflow_mul-value-in-loop-i
+overflow_mul-value-in-loop-i c = omega (arith, below_power c.loop-i.value c.loop-i._i 15 c.loop-i.invariant.2 (omega arith))
 
 -- one zero more behind the bytes
 zero_more : (bs : List ℕ) (k n : ℕ) → k + 1 ≡ n → (bs ++ replicate k 0) ++ (0 ∷ []) ≡ bs ++ replicate n 0
@@ -72,7 +72,7 @@ zero_more bs k n e =
 
 pub loop-i-preserved : goal.loop-i-preserved
 loop-i-preserved c =
-    let i = c.loop-i.-i in
+    let i = c.loop-i._i in
     let bs = c.args.bytes.now in
     let k = i - length bs in
     let more : k + 1 ≡ i + 1 - length bs = omega arith in
@@ -85,8 +85,8 @@ loop-i-preserved c =
 pub returns : goal.returns
 returns c =
     let bs = c.args.bytes.now in
-    let some = false-eqb (length bs) 0 c.if-is-empty.ensures in
-    let end : c.loop-i.-i - length bs ≡ 16 - length bs = omega (arith, c.loop-i.auto.-i-end c.if-bytes-gt-NAME-LIMIT.false) in
-    let named : is_name bs ≡ true = and_from (ltb 0 (length bs)) (leb (length bs) 16 && no_zero bs) (lt-ltb 0 (length bs) (omega arith)) (and_from (leb (length bs) 16) (no_zero bs) (le-leb (length bs) 16 c.if-bytes-gt-NAME-LIMIT.false) c.loop-i.invariant.0) in
+    let some = false-eqb (length bs) 0 c.if-is_empty.ensures in
+    let end : c.loop-i._i - length bs ≡ 16 - length bs = omega (arith, c.loop-i.auto._i-end c.if-bytes-gt-NAME_LIMIT.false) in
+    let named : is_name bs ≡ true = and_from (ltb 0 (length bs)) (leb (length bs) 16 && no_zero bs) (lt-ltb 0 (length bs) (omega arith)) (and_from (leb (length bs) 16) (no_zero bs) (le-leb (length bs) 16 c.if-bytes-gt-NAME_LIMIT.false) c.loop-i.invariant.0) in
     let value : Some c.loop-i.value ≡ name_number bs = ap Some (c.loop-i.invariant.1 ∙ ap (λ n. gather (bs ++ replicate n 0)) end) ∙ sym (cond-true (is_name bs) (Some (number_of bs)) None named) in
-    record { value = value; law = ordered bs (Some c.loop-i.value) (under_from bs (λ k. omega (arith, c.type-inv.bytes k))) value }
+    record { value = value; law = ordered bs (Some c.loop-i.value) (under_from bs (λ k. omega (arith, c.type_inv.bytes k))) value }

@@ -11,4 +11,4 @@ invariant-loop-b l =
 -- all bytes, and the zeros so far
 abbrev pub invariant-loop-i : goal.invariant-loop-i
 invariant-loop-i l =
-    (no_zero l.bytes ≡ true) × (l.value ≡ gather (l.bytes ++ replicate (l.-i - length l.bytes) 0)) × (l.value < 256 ^ l.-i)
+    (no_zero l.bytes ≡ true) × (l.value ≡ gather (l.bytes ++ replicate (l._i - length l.bytes) 0)) × (l.value < 256 ^ l._i)

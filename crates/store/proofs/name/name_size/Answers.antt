@@ -16,18 +16,18 @@ front_step bs i h e = at_drop_more front bs i 0 h ∙ cond-false (eqb (get_or bs
 pub returns-then-bytes-i-eq0 : goal.returns-then-bytes-i-eq0
 returns-then-bytes-i-eq0 c =
     let n = c.args.name in
-    let bs = c.name-bytes-bytes.result in
-    let long : length bs ≡ 16 = ap length c.name-bytes-bytes.ensures.value ∙ length_spread 16 n in
+    let bs = c.name_bytes-bytes.result in
+    let long : length bs ≡ 16 = ap length c.name_bytes-bytes.ensures.value ∙ length_spread 16 n in
     let stop = front_stop bs c.loop-i.i (omega arith) c.if-bytes-i-eq0.true in
     let inv = c.loop-i.invariant in
-    let value : c.loop-i.i ≡ front (spread 16 n) = sym (inv ∙ omega arith) ∙ ap front c.name-bytes-bytes.ensures.value in
+    let value : c.loop-i.i ≡ front (spread 16 n) = sym (inv ∙ omega arith) ∙ ap front c.name_bytes-bytes.ensures.value in
     let small : n < 256 ^ 16 = omega arith in
     record { value = value; law = λ bs u e. value ∙ sizes n small bs u e }
 
 pub loop-i-preserved : goal.loop-i-preserved
 loop-i-preserved c =
-    let bs = c.name-bytes-bytes.result in
-    let long : length bs ≡ 16 = ap length c.name-bytes-bytes.ensures.value ∙ length_spread 16 c.args.name in
+    let bs = c.name_bytes-bytes.result in
+    let long : length bs ≡ 16 = ap length c.name_bytes-bytes.ensures.value ∙ length_spread 16 c.args.name in
     let step = front_step bs c.loop-i.i (omega arith) c.if-bytes-i-eq0.false in
     let inv = c.loop-i.invariant in
     omega (arith, inv)
@@ -35,11 +35,11 @@ loop-i-preserved c =
 pub returns : goal.returns
 returns c =
     let n = c.args.name in
-    let bs = c.name-bytes-bytes.result in
-    let long : length bs ≡ 16 = ap length c.name-bytes-bytes.ensures.value ∙ length_spread 16 n in
+    let bs = c.name_bytes-bytes.result in
+    let long : length bs ≡ 16 = ap length c.name_bytes-bytes.ensures.value ∙ length_spread 16 n in
     let none : front (drop c.loop-i.i bs) ≡ 0 = at_drop_all front bs c.loop-i.i (omega arith) in
     let inv = c.loop-i.invariant in
     let end : c.loop-i.i ≡ 16 = omega arith in
-    let value : ◌≡◌ {A = ℕ} 16 (front (spread 16 n)) = sym (inv ∙ omega arith) ∙ ap front c.name-bytes-bytes.ensures.value in
+    let value : ◌≡◌ {A = ℕ} 16 (front (spread 16 n)) = sym (inv ∙ omega arith) ∙ ap front c.name_bytes-bytes.ensures.value in
     let small : n < 256 ^ 16 = omega arith in
     record { value = value; law = λ bs u e. value ∙ sizes n small bs u e }

@@ -10,5 +10,5 @@ returns c =
     let at = c.args.at in
     let n = at + length text - at in
     let end : at + n ≡ at + length text = omega arith in
-    ap (λ t. put_mid at n s t) c.copy-from-slice.ensures.after
+    ap (λ t. put_mid at n s t) c.copy_from_slice.ensures.after
     ∙ ap (λ t. take at s ++ (text ++ t)) (drop-drop n at s ∙ ap (λ m. drop m s) end)

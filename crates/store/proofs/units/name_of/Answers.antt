@@ -5,18 +5,18 @@ use Rattle.store.proofs.units.name_of.Goals as goal
 pub returns-then-k-directory : goal.returns-then-k-directory
 returns-then-k-directory c = omega (arith, units_count c.read-directory.result c.args.store.now c.read-directory.ensures.records)
 
-pub overflow-add-at : goal.overflow-add-at
-overflow-add-at c =
+pub overflow_add-at : goal.overflow_add-at
+overflow_add-at c =
     let b = record_bounds c.read-directory.result c.args.store.now c.args.k c.read-directory.ensures.records c.if-k-directory.false in
     omega (arith, b.0, b.1, b.3, c.slot.ensures, c.from.ensures)
 
-pub overflow-add-result : goal.overflow-add-result
-overflow-add-result c =
+pub overflow_add-result : goal.overflow_add-result
+overflow_add-result c =
     let b = record_bounds c.read-directory.result c.args.store.now c.args.k c.read-directory.ensures.records c.if-k-directory.false in
     omega (arith, b.0, b.1, b.3, c.slot.ensures, c.from.ensures, c.from-2.ensures)
 
-pub slice-bounds-result-end : goal.slice-bounds-result-end
-slice-bounds-result-end c =
+pub slice_bounds-result-end : goal.slice_bounds-result-end
+slice_bounds-result-end c =
     let b = record_bounds c.read-directory.result c.args.store.now c.args.k c.read-directory.ensures.records c.if-k-directory.false in
     omega (arith, b.0, b.1, b.2, b.3, c.slot.ensures, c.from.ensures, c.from-2.ensures)
 

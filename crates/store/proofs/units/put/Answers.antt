@@ -9,13 +9,13 @@ use Rattle.store.proofs.Done.{told, name_inside, number_small, sound_for, put_fu
 use Rattle.store.proofs.Members.{once_units, replaced}
 use Rattle.store.proofs.units.put.Goals as goal
 
-pub overflow-cast-e : goal.overflow-cast-e
-overflow-cast-e c =
+pub overflow_cast-e : goal.overflow_cast-e
+overflow_cast-e c =
     let text = c.args.text.now in
     omega (arith, (name_inside text c.args.place c.args.size (told text c.args.place c.args.size c.in-Some.name c.in-Some.ensures).0).2)
 
-pub returns-in-default-with : goal.returns-in-default-with
-returns-in-default-with c =
+pub returns-in_default-with : goal.returns-in_default-with
+returns-in_default-with c =
     let s = c.args.store.now in
     let text = c.args.text.now in
     let place = c.args.place in
@@ -23,10 +23,10 @@ returns-in-default-with c =
     let rank = c.args.rank in
     let n = c.in-Some.name in
     let t = told text place size n c.in-Some.ensures in
-    let small : number_in text place size < 256 ^ 16 = number_small text place size (λ k. omega (arith, c.type-inv.text k)) t.0 in
-    let ok = sound_for text place size rank n t.0 c.if-text-gt-LONGEST-TEXT.false (omega arith) (subst (λ m. m < 256 ^ 16) (sym t.1) small) in
-    let full = put_full s text place size rank n c.if-store-ne-STORE-BYTES.false c.if-text-gt-LONGEST-TEXT.false t.0 t.1 ok
-    (subst (λ es. fits (record { name = n; size = size; place = place; span = length text; rank = rank }) es ≡ false) c.read.ensures.records c.in-default-with.ensures) in
+    let small : number_in text place size < 256 ^ 16 = number_small text place size (λ k. omega (arith, c.type_inv.text k)) t.0 in
+    let ok = sound_for text place size rank n t.0 c.if-text-gt-LONGEST_TEXT.false (omega arith) (subst (λ m. m < 256 ^ 16) (sym t.1) small) in
+    let full = put_full s text place size rank n c.if-store-ne-STORE_BYTES.false c.if-text-gt-LONGEST_TEXT.false t.0 t.1 ok
+    (subst (λ es. fits (record { name = n; size = size; place = place; span = length text; rank = rank }) es ≡ false) c.read.ensures.records c.in_default-with.ensures) in
     record { answer = sym full; bytes = sym (put_refused s text place size rank Full full); law = refl; replaced = λ no. absurd (false≢true no) }
 
 pub returns : goal.returns
@@ -38,9 +38,9 @@ returns c =
     let rank = c.args.rank in
     let n = c.in-Some.name in
     let t = told text place size n c.in-Some.ensures in
-    let small : number_in text place size < 256 ^ 16 = number_small text place size (λ k. omega (arith, c.type-inv.text k)) t.0 in
-    let ok = sound_for text place size rank n t.0 c.if-text-gt-LONGEST-TEXT.false (omega arith) (subst (λ m. m < 256 ^ 16) (sym t.1) small) in
+    let small : number_in text place size < 256 ^ 16 = number_small text place size (λ k. omega (arith, c.type_inv.text k)) t.0 in
+    let ok = sound_for text place size rank n t.0 c.if-text-gt-LONGEST_TEXT.false (omega arith) (subst (λ m. m < 256 ^ 16) (sym t.1) small) in
     let p = subst (λ es. (fits (record { name = n; size = size; place = place; span = length text; rank = rank }) es ≡ true) × (live c.in-Some-with.changed.0 ≡ entered (seat n es) (record { name = n; size = size; place = place; span = length text; rank = rank }) es) × (c.in-Some-with.changed.1 ≡ seat n es)) c.read.ensures.records c.in-Some-with.ensures in
-    let done = put_done text s c.write-text.new.store c.write.new.store place size rank n c.in-Some-with.changed.1 c.slot.result (live c.in-Some-with.changed.0)
-    c.if-store-ne-STORE-BYTES.false c.if-text-gt-LONGEST-TEXT.false t.0 t.1 ok p.0 p.1 p.2 c.slot.ensures c.write-text.ensures c.write.ensures.bytes in
+    let done = put_done text s c.write_text.new.store c.write.new.store place size rank n c.in-Some-with.changed.1 c.slot.result (live c.in-Some-with.changed.0)
+    c.if-store-ne-STORE_BYTES.false c.if-text-gt-LONGEST_TEXT.false t.0 t.1 ok p.0 p.1 p.2 c.slot.ensures c.write_text.ensures c.write.ensures.bytes in
     record { answer = sym done.0; bytes = done.1; law = done.2; replaced = λ x. subst (Replaced (unit_for text place size rank) (units s)) (sym done.2) (replaced (unit_for text place size rank) (units s) (once_units s)) }

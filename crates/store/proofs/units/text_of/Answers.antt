@@ -5,13 +5,13 @@ use Rattle.store.proofs.units.text_of.Goals as goal
 pub returns-then-k-directory : goal.returns-then-k-directory
 returns-then-k-directory c = omega (arith, units_count c.read-directory.result c.args.store.now c.read-directory.ensures.records)
 
-pub overflow-add-result : goal.overflow-add-result
-overflow-add-result c =
+pub overflow_add-result : goal.overflow_add-result
+overflow_add-result c =
     let b = record_bounds c.read-directory.result c.args.store.now c.args.k c.read-directory.ensures.records c.if-k-directory.false in
     omega (arith, b.0, b.3, c.slot-at.ensures, c.from.ensures)
 
-pub slice-bounds-result-end : goal.slice-bounds-result-end
-slice-bounds-result-end c =
+pub slice_bounds-result-end : goal.slice_bounds-result-end
+slice_bounds-result-end c =
     let b = record_bounds c.read-directory.result c.args.store.now c.args.k c.read-directory.ensures.records c.if-k-directory.false in
     omega (arith, b.0, b.2, b.3, c.slot-at.ensures, c.from.ensures)
 

@@ -6,19 +6,17 @@ use Rattle.store.proofs.Lawful.{lawful_vacated}
 use Rattle.store.proofs.Changes.{records_without}
 use Rattle.store.proofs.directory.Directory.without.Goals as goal
 
-pub invariant-of-result : goal.invariant-of-result
-invariant-of-result c =
+pub invariant_of-result : goal.invariant_of-result
+invariant_of-result c =
     let d = c.args.self in
     let few : d.count ≤ 16 = d.few in
     let long : length d.entries ≡ 16 = d.long in
     let whole = length-take-le d.count d.entries (omega arith) in
-    let records = records_without d.count c.seat-i.result c.args.name d.entries d.long few c.seat-i.ensures c.if-i-self.false in (
-      length-set d.entries c.seat-i.result (get_or d.entries (d.count - 1) blank) ∙ d.long,
-      (
-        omega arith,
-        (subst (λ es. lawful es ≡ true) (sym records) (lawful_vacated (seat c.args.name (live d)) blank (live d) (omega arith) d.ok), tt),
-      ),
-    )
+    let records = records_without d.count c.seat-i.result c.args.name d.entries d.long few c.seat-i.ensures c.if-i-self.false in record {
+      long = length-set d.entries c.seat-i.result (get_or d.entries (d.count - 1) blank) ∙ d.long;
+      few = omega arith;
+      ok = subst (λ es. lawful es ≡ true) (sym records) (lawful_vacated (seat c.args.name (live d)) blank (live d) (omega arith) d.ok);
+    }
 
 pub returns : goal.returns
 returns c =
