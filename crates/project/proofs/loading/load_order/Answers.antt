@@ -1,4 +1,4 @@
-use Rattle.std.proofs.Common.{◌≡◌, ℕ, ◌-◌, Bool, true, false, cond, ◌&&◌, eqb, List, length, take, Ok, Err, Result, sym, refl, ap, ◌∙◌, arith}
+use Rattle.std.proofs.Common.{◌≡◌, ℕ, ◌-◌, Bool, true, false, ◌&&◌, eqb, List, length, take, Ok, Err, Result, sym, refl, ap, ◌∙◌, arith}
 use Rattle.std.proofs.lemmas.Bool.{cond-true, cond-false, and_from, eq-eqb, ne_eqb}
 use Rattle.cores.specs.Meaning.{Word}
 use Rattle.order.specs.Answer.{arranged}
@@ -6,7 +6,6 @@ use Rattle.order.specs.declared.Order.{Order}
 use Rattle.order.specs.declared.Fault.{Fault as Unarranged}
 use Rattle.order.proofs.Meaning.{means}
 use Rattle.store.specs.Units.{units}
-use Rattle.project.specs.declared.fault.Fault.{Fault}
 use Rattle.project.specs.declared.fault.Question.TheVariants.{Lengths}
 use Rattle.project.specs.Faults.{without}
 use Rattle.project.specs.Loading.{stored_view, or_order_fault, load_order}

@@ -1,4 +1,4 @@
-use Rattle.std.proofs.Common.{◌≡◌, ℕ, ◌^◌, ◌<◌, List, length, get_or, sym, ap, ◌∙◌, subst, arith}
+use Rattle.std.proofs.Common.{ℕ, List, get_or, ap, ◌∙◌, subst, arith}
 use Rattle.store.specs.declared.entry.Entry.{Entry}
 use Rattle.store.specs.Entries.{blank}
 use Rattle.store.specs.Layout.{stored}
@@ -6,7 +6,6 @@ use Rattle.store.specs.Units.{units}
 use Rattle.project.specs.Loading.{heads_of, unit_at}
 use Rattle.project.specs.Naming.{NamingOf}
 use Rattle.project.proofs.Viewed.{named_needs, named_within, named_missing, rank_is}
-use Rattle.project.proofs.loading.unit_seen.Given as given
 use Rattle.project.proofs.loading.unit_seen.Goals as goal
 
 pub returns : goal.returns
