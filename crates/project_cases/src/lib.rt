@@ -1,4 +1,6 @@
 // Calls of projects on examples. All of this crate is tests.
+#![tactic(auto)]
+
 #[cfg(test)]
 mod tests {
     use cores::mini_ml::MiniMl;
