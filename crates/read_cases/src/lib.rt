@@ -1,4 +1,6 @@
 // Unit texts through the reader. All of this crate is tests.
+#![tactic(auto)]
+
 #[cfg(test)]
 mod tests {
     use cores::interface::Core;
