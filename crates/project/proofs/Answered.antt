@@ -1,13 +1,12 @@
 -- What put and drop answer and leave on each of their ways.
-use Rattle.std.proofs.Common.{◌≡◌, ℕ, Bool, true, false, cond, List, length, is_ok, Some, None, Ok, Err, Option, Result, sym, refl, ap, ◌∙◌, subst, arith}
+use Rattle.std.proofs.Common.{◌≡◌, ℕ, Bool, true, false, cond, List, length, Some, None, Ok, Err, Option, Result, sym, refl, ap, ◌∙◌, arith}
 use Rattle.cores.specs.Meaning.{Word}
 use Rattle.reader.specs.declared.fault.ReadFault.{ReadFault}
 use Rattle.reader.specs.Answers.{Heading, unit_answer}
 use Rattle.store.specs.declared.units.Refusal.{Refusal}
-use Rattle.store.specs.declared.units.Refusal.TheVariants.{Full as FullStore, Missing}
 use Rattle.store.specs.Layout.{stored}
 use Rattle.store.specs.Names.{name_number, number_of}
-use Rattle.store.specs.Units.{StoredUnit, units, put_in, taken_out}
+use Rattle.store.specs.Units.{units, put_in, taken_out}
 use Rattle.store.specs.Calls.{put_answer, store_after_put, remove_answer, store_after_remove}
 use Rattle.store.proofs.Holding.{length_held}
 use Rattle.project.specs.declared.fault.Question.TheVariants.{Lengths, Full, NotStored}

@@ -1,17 +1,15 @@
 -- What put and drop do to a store of the right length, and to its units.
-use Rattle.std.proofs.Common.{◌≡◌, ℕ, ◌-◌, ◌^◌, ◌<◌, ◌≤◌, Bool, true, false, cond, ◌&&◌, ◌||◌, eqb, ltb, leb, List, [], ◌∷◌, length, get_or, take, drop, is_ok, Some, None, Ok, Err, Option, Result, sym, refl, ap, ◌∙◌, subst, ⊎_elim, arith, length-take}
-use Rattle.std.proofs.lemmas.Bool.{eq-eqb, eqb-true, le-leb, ltb-true, cond-true, cond-false, and_parts, cases_lt, le-ltb}
-use Rattle.cores.specs.Meaning.{Word}
-use Rattle.reader.specs.declared.fault.ReadFault.{ReadFault}
-use Rattle.reader.specs.Answers.{Heading, unit_answer}
+use Rattle.std.proofs.Common.{◌≡◌, ℕ, ◌-◌, ◌^◌, ◌<◌, ◌≤◌, Bool, true, false, cond, ◌||◌, eqb, ltb, leb, List, length, get_or, drop, is_ok, Ok, Err, Result, sym, refl, ap, ◌∙◌, subst, ⊎_elim, arith, length-take}
+use Rattle.std.proofs.lemmas.Bool.{eq-eqb, le-leb, ltb-true, cond-true, cond-false, cases_lt, le-ltb}
+use Rattle.reader.specs.Answers.{Heading}
 use Rattle.store.specs.declared.entry.Entry.{Entry}
 use Rattle.store.specs.declared.units.Refusal.{Refusal}
 use Rattle.store.specs.declared.units.Refusal.TheVariants.{StoreLength, TextLength, NoName, Full as FullStore, Missing}
 use Rattle.store.specs.Numbers.{laid}
 use Rattle.store.specs.Entries.{blank, seat, entered, vacated}
 use Rattle.store.specs.Layout.{encode, stored}
-use Rattle.store.specs.Names.{name_number, number_of}
-use Rattle.store.specs.Units.{StoredUnit, slot, units, seat_in, put_in, taken_out, unit_of_entry}
+use Rattle.store.specs.Names.{number_of}
+use Rattle.store.specs.Units.{StoredUnit, slot, units, put_in, taken_out, unit_of_entry}
 use Rattle.store.specs.Calls.{has_name, number_in, room, record_for, put_answer, with_unit, store_after_put, remove_answer, last_text, without_unit, store_after_remove}
 use Rattle.store.proofs.Coding.{length_encode}
 use Rattle.store.proofs.Done.{sound_for}
@@ -19,11 +17,8 @@ use Rattle.store.proofs.Holding.{length_held, seat_held, lawful_stored, put_unit
 use Rattle.store.proofs.Laid.{length_laid}
 use Rattle.store.proofs.Lawful.{lawful_parts, length_entered, length_vacated}
 use Rattle.store.proofs.Seats.{seat_le}
-use Rattle.project.specs.declared.fault.Question.TheVariants.{Lengths, Full, NotStored}
-use Rattle.project.specs.declared.fault.Fault.{Fault}
-use Rattle.project.specs.Faults.{about, without, reading_fault}
-use Rattle.project.specs.Calls.{right_lengths, unit_for, as_unit, unit_of, stores, has_room, put_among, drop_among, accepted, unless_refused, put_outcome, store_with, put_store, drop_outcome, store_without, drop_store}
-use Rattle.project.proofs.Headings.{Headed, heading_read, heading_has_name, upper_number}
+use Rattle.project.specs.Calls.{unit_for, stores, has_room}
+use Rattle.project.proofs.Headings.{Headed, heading_has_name, upper_number}
 
 -- the units of a store stand where its records do
 pub stores_is : (n : ℕ) (s : List ℕ) → stores n (units s) ≡ ltb (seat n (stored s)) (length (stored s))

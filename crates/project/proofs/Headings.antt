@@ -1,5 +1,5 @@
 -- What a text that reads as a unit has at its head: a name that stands in it, and a rank below 256.
-use Rattle.std.proofs.Common.{◌≡◌, ℕ, suc, ◌+◌, ◌-◌, ◌^◌, ◌<◌, ◌≤◌, Bool, true, false, cond, not, ◌&&◌, ◌||◌, eqb, ltb, leb, List, [], ◌∷◌, ◌++◌, length, take, drop, replicate, Some, None, Ok, Err, Option, Result, sym, refl, ap, ◌∙◌, subst, arith, length-append, length-drop}
+use Rattle.std.proofs.Common.{◌≡◌, ℕ, ◌+◌, ◌-◌, ◌^◌, ◌<◌, ◌≤◌, Bool, true, false, cond, not, ◌&&◌, eqb, ltb, leb, List, [], ◌∷◌, ◌++◌, length, take, drop, replicate, Some, None, Ok, Err, Option, Result, sym, refl, ap, ◌∙◌, subst, arith, length-append}
 use lib.Seq.{take-append_seam}
 use Rattle.std.specs.Int.Digits.{AllBelowBase}
 use Rattle.std.proofs.lemmas.Int.Digits.{number_lt}
@@ -8,7 +8,7 @@ use Rattle.std.proofs.lemmas.Bool.{and_from, lt-ltb, le-leb, eqb-true, leb-true}
 use Rattle.std.proofs.lemmas.Bool.Decides.{nat_tests}
 use Rattle.tokens.specs.Bytes.{is_upper, is_name_byte}
 use Rattle.tokens.specs.Lexer.{Next, at_end, token, no_token, next_token, token_front}
-use Rattle.tokens.specs.Pieces.{Piece, blank, mark, keyword, lower, upper, integer, written, All, UpperName}
+use Rattle.tokens.specs.Pieces.{Piece, blank, mark, keyword, lower, upper, integer, All, UpperName}
 use Rattle.tokens.proofs.Walk.{advance}
 use Rattle.tokens.proofs.Sound.{token_stands}
 use Rattle.types.specs.Types.{Name}

@@ -1,14 +1,13 @@
 -- Put and drop mean what they should, whatever they are given.
-use Rattle.std.proofs.Common.{◌≡◌, ℕ, Bool, true, false, cond, ◌&&◌, eqb, List, length, is_ok, Some, None, Ok, Err, Option, Result, sym, refl, ap, ◌∙◌, subst, arith}
+use Rattle.std.proofs.Common.{◌≡◌, ℕ, Bool, true, false, cond, eqb, List, length, is_ok, Some, None, Ok, Err, Option, Result, sym, refl, ap, ◌∙◌, subst, arith}
 use Rattle.std.proofs.lemmas.Bool.{eqb-true, and_parts, ltb-true}
 use Rattle.cores.specs.Meaning.{Word}
 use Rattle.reader.specs.declared.fault.ReadFault.{ReadFault}
 use Rattle.reader.specs.Answers.{Heading, unit_answer}
 use Rattle.reader.proofs.Means.{unit_so}
-use Rattle.store.specs.declared.units.Refusal.{Refusal}
 use Rattle.store.specs.Names.{name_number, number_of}
-use Rattle.store.specs.Units.{StoredUnit, units, seat_in, put_in, taken_out, Replaced, Removed, Kept}
-use Rattle.store.specs.Calls.{put_answer, store_after_put, remove_answer, store_after_remove}
+use Rattle.store.specs.Units.{StoredUnit, units, seat_in, put_in, taken_out, Replaced, Removed}
+use Rattle.store.specs.Calls.{store_after_put, store_after_remove}
 use Rattle.store.proofs.Members.{once_units, kept_units, replaced, removed}
 use Rattle.project.specs.declared.fault.Question.TheVariants.{Lengths, Full, NotStored}
 use Rattle.project.specs.declared.fault.Fault.{Fault}

@@ -1,5 +1,5 @@
 -- After every run the stored units are those of the register.
-use Rattle.std.proofs.Common.{◌≡◌, ℕ, ◌<◌, Bool, true, false, cond, ◌&&◌, eqb, ◌⊎◌, List, [], ◌∷◌, length, replicate, Some, None, Ok, Err, Option, Result, sym, refl, ap, ◌∙◌, subst, inl, inr, ⊎_elim, arith}
+use Rattle.std.proofs.Common.{◌≡◌, ℕ, Bool, true, false, cond, eqb, List, [], ◌∷◌, length, replicate, Some, None, Ok, Err, Option, Result, sym, refl, ap, ◌∙◌, subst, ⊎_elim, arith}
 use Rattle.std.proofs.lemmas.Bool.{eq-eqb, and_from, cond-true, ltb-true}
 use Rattle.std.proofs.lemmas.List.{length-replicate}
 use Rattle.cores.specs.Meaning.{Word}
@@ -8,16 +8,16 @@ use Rattle.reader.specs.Answers.{Heading, unit_answer}
 use Rattle.store.specs.Numbers.{laid}
 use Rattle.store.specs.Layout.{encode, written}
 use Rattle.store.specs.Names.{name_number}
-use Rattle.store.specs.Units.{StoredUnit, units, seat_in, put_in, taken_out, Among, Kept}
+use Rattle.store.specs.Units.{StoredUnit, units, seat_in, put_in, taken_out, Kept}
 use Rattle.store.proofs.Coding.{length_encode, stored_laid}
 use Rattle.store.proofs.Holding.{no_units}
 use Rattle.store.proofs.Laid.{length_laid}
 use Rattle.store.proofs.Members.{once_units, kept_units, replaced, removed}
 use Rattle.project.specs.declared.fault.Question.TheVariants.{Lengths, Full, NotStored}
 use Rattle.project.specs.declared.fault.Fault.{Fault}
-use Rattle.project.specs.Faults.{about, without, reading_fault}
-use Rattle.project.specs.Calls.{right_lengths, unit_for, as_unit, unit_of, stores, has_room, put_among, drop_among, unless_refused, put_outcome, put_store, drop_outcome, drop_store, open_store, open_book}
-use Rattle.project.specs.Runs.{Call, Memory, opened, step, run, registered, register_from, register, AllRead, Registered, RegisterLaw}
+use Rattle.project.specs.Faults.{about, without}
+use Rattle.project.specs.Calls.{right_lengths, unit_for, as_unit, unit_of, stores, has_room, put_among, drop_among, unless_refused, put_outcome, put_store, drop_outcome, drop_store, open_store}
+use Rattle.project.specs.Runs.{Call, Memory, opened, step, run, registered, register_from, AllRead, Registered, RegisterLaw}
 use Rattle.project.proofs.Headings.{heading_read}
 use Rattle.project.proofs.Meaning.{put_change, drop_change}
 

@@ -1,14 +1,14 @@
 -- What the code sees of stored units is what the definitions say of them.
-use Rattle.std.proofs.Common.{◌≡◌, ℕ, zero, suc, ◌+◌, ◌*◌, ◌/◌, ◌%◌, ◌^◌, ◌<◌, ◌≤◌, Bool, true, false, cond, not, ◌||◌, eqb, ltb, List, [], ◌∷◌, length, get_or, take, is_some, Some, None, Option, sym, refl, ap, ◌∙◌, subst, ap₂, ⊎_elim, div-le_self, arith, shr-shr}
+use Rattle.std.proofs.Common.{◌≡◌, ℕ, ◌+◌, ◌/◌, ◌%◌, ◌^◌, ◌<◌, ◌≤◌, Bool, true, false, cond, not, ◌||◌, eqb, ltb, List, [], ◌∷◌, length, get_or, take, is_some, Some, None, Option, sym, refl, ap, ◌∙◌, subst, ap₂, ⊎_elim, div-le_self, arith, shr-shr}
 use mathlib.Core.Path.{fun_ext}
 use native.Mathlib.Nat.{zero-div}
 use Rattle.std.proofs.lemmas.List.{get_or_past, get_or-take, length-take-le}
-use Rattle.std.proofs.lemmas.Bool.{cases_lt, cases_eq, eq-eqb, ne_eqb, eqb-true, ltb-true, lt-ltb, le-ltb}
+use Rattle.std.proofs.lemmas.Bool.{cases_lt, cases_eq, eq-eqb, ne_eqb, ltb-true, lt-ltb}
 use Rattle.cores.specs.Meaning.{Word}
 use Rattle.store.specs.declared.entry.Entry.{Entry}
 use Rattle.store.specs.Entries.{blank, seat, found}
 use Rattle.store.specs.Layout.{stored}
-use Rattle.store.specs.Units.{StoredUnit, units, seat_in, no_unit, Once, unit_held_at}
+use Rattle.store.specs.Units.{StoredUnit, units, seat_in, no_unit}
 use Rattle.store.proofs.Holding.{length_held, seat_held, get_d_held, lawful_stored}
 use Rattle.store.proofs.Lawful.{lawful_parts}
 use Rattle.store.proofs.Members.{once_units, seat_first, seat_only}

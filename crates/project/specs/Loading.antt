@@ -4,7 +4,7 @@ use Rattle.types.specs.Types.{Name}
 use Rattle.cores.specs.Meaning.{Word}
 use Rattle.reader.specs.declared.fault.ReadFault.{ReadFault}
 use Rattle.reader.specs.declared.parse.Start.{Start}
-use Rattle.reader.specs.Mentions.{headName, headsAnswer}
+use Rattle.reader.specs.Mentions.{head_name, heads_answer}
 use Rattle.store.specs.Names.{name_number}
 use Rattle.store.specs.Units.{StoredUnit, units, no_unit}
 use Rattle.order.specs.Units.{Units}
@@ -24,7 +24,7 @@ places_or (Ok places) = places
 places_or (Err e) = []
 
 abbrev pub heads_of : List Word → List ℕ → List ℕ
-heads_of ws text = places_or (headsAnswer Start.«Unit» ws text 65536)
+heads_of ws text = places_or (heads_answer Start.«Unit» ws text 65536)
 
 -- the number of the name that stands at a place, if one does
 abbrev pub numbered : Option Name → Option ℕ
@@ -32,7 +32,7 @@ numbered None = None
 numbered (Some x) = name_number x
 
 abbrev pub head_number : List ℕ → ℕ → Option ℕ
-head_number text place = numbered (headName text place)
+head_number text place = numbered (head_name text place)
 
 -- this number is that one
 abbrev pub is_number : Option ℕ → ℕ → Bool

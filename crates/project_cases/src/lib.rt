@@ -1,4 +1,6 @@
 // Calls of projects on examples. All of this crate is tests.
+#![tactic(auto)]
+
 #[cfg(test)]
 mod tests {
     use cores::mini_ml::MiniMl;
@@ -84,16 +86,15 @@ mod tests {
             }
         }
 
-        // Ends the project, and checks how many units it had.
-        fn close(self, units: usize) -> Result<(), Fail> {
+        // Ends the project, and tells how many units it had.
+        fn close(self) -> usize {
             let Bench {
                 project,
                 store: _,
                 book: _,
                 scratch: _,
             } = self;
-            assert_eq!(project.close(), units);
-            Ok(())
+            project.close()
         }
     }
 
@@ -106,7 +107,7 @@ mod tests {
         let gone = b.drop_named(b"A");
         let twice = b.drop_named(b"A");
         let long = b.drop_named(b"Abcdefghijklmnopq");
-        b.close(1)?;
+        assert_eq!(rt; b.close(), 1);
         assert_eq!(rt; first, (0, None, None));
         assert_eq!(rt; other, (0, None, None));
         assert_eq!(rt; again, (0, None, None));
@@ -124,7 +125,7 @@ mod tests {
         let syntax = b.put(b"module U = struct let end");
         let again = b.put(b"module U = struct type t = int type t = u end");
         let missing = b.put(b"module U = struct type t = u end");
-        b.close(0)?;
+        assert_eq!(rt; b.close(), 0);
         assert_eq!(rt; length, (2, None, None));
         assert_eq!(rt; syntax, (3, Some(22), None));
         assert_eq!(rt; again, (5, Some(36), None));
@@ -146,7 +147,7 @@ mod tests {
         let circle = b.ordered(0);
         let _ = b.put(b"module C = struct module Y = D end");
         let both = b.ordered(0);
-        b.close(3)?;
+        assert_eq!(rt; b.close(), 3);
         assert_eq!(rt; lacking, (10, Some(29), Some(b'A')));
         assert_eq!(rt; same.0, (0, None, Some(b'B')));
         assert_eq!(rt; same.1, (0, None, Some(b'C')));
@@ -165,7 +166,7 @@ mod tests {
         let _ = b.put(b"module Z = struct module M = Z end");
         let _ = b.put(b"module A = struct module M = Z end");
         let circle = b.ordered(0);
-        b.close(2)?;
+        assert_eq!(rt; b.close(), 2);
         assert_eq!(rt; circle, (11, None, Some(b'Z')));
         Ok(())
     }
@@ -180,7 +181,7 @@ mod tests {
         }
         let seventeenth = b.put(b"module Q = struct end");
         let replaced = b.put(b"module C = struct let x = 1 end");
-        b.close(16)?;
+        assert_eq!(rt; b.close(), 16);
         assert_eq!(rt; seventeenth, (7, None, None));
         assert_eq!(rt; replaced, (0, None, None));
         Ok(())
@@ -211,7 +212,7 @@ mod tests {
             Ok(()) => (0, None, None),
             Err(fault) => told(fault),
         };
-        b.close(1)?;
+        assert_eq!(rt; b.close(), 1);
         assert_eq!(rt; foreign, (0, None, None));
         assert_eq!(rt; stored, (0, None, None));
         assert_eq!(rt; lengths, (1, None, Some(b'A')));

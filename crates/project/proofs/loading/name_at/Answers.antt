@@ -1,5 +1,5 @@
 use Rattle.std.proofs.Common.{sym, ap}
-use Rattle.store.specs.Units.{StoredUnit, units, no_unit}
+use Rattle.store.specs.Units.{units, no_unit}
 use Rattle.std.proofs.lemmas.List.{get_or_past}
 use Rattle.project.specs.Loading.{name_bytes}
 use Rattle.project.proofs.loading.name_at.Goals as goal

@@ -20,16 +20,16 @@ returns-in-Missing g c =
     let ws = g.C.Core.words in
     let i = c.in-Missing.i in
     let text = (unit_at (units s) i).text in
-    let f = c.text-named-found.result in
+    let f = c.text_named-found.result in
     let n : NamingOf (stored s) text (heads_of ws text) f =
-    subst (λ (t : List ℕ). NamingOf (stored s) t (heads_of ws t) f) c.text-at.ensures
-    (subst (λ (es : List Entry). NamingOf es c.text-at.result.now (heads_of ws c.text-at.result.now) f) c.requires.0 c.text-named-found.ensures) in
-    let place : c.unwrap-or.result ≡ first_strange ws (units s) i = c.unwrap-or.ensures ∙ value_or f.missing ∙ ap place_or (named_missing ws s text f n).0 in
-    let name = ap (λ (e : Entry). e.name) (c.record-at.ensures ∙ ap (λ (es : List Entry). get_or es i blank) c.requires.0) ∙ name_is s i in
+    subst (λ (t : List ℕ). NamingOf (stored s) t (heads_of ws t) f) c.text_at.ensures
+    (subst (λ (es : List Entry). NamingOf es c.text_at.result.now (heads_of ws c.text_at.result.now) f) c.requires.directory_value c.text_named-found.ensures) in
+    let place : c.unwrap_or.result ≡ first_strange ws (units s) i = c.unwrap_or.ensures ∙ value_or f.missing ∙ ap place_or (named_missing ws s text f n).0 in
+    let name = ap (λ (e : Entry). e.name) (c.record_at.ensures ∙ ap (λ (es : List Entry). get_or es i blank) c.requires.directory_value) ∙ name_is s i in
     ap₂ (λ (m p : ℕ). about (Some m) (UnitMissing p)) name place ∙ sym (ap (order_fault ws (units s)) c.in-Missing.is)
 
 pub returns-in-Cycle : goal.returns-in-Cycle
 returns-in-Cycle g c =
     ap (λ (n : ℕ). about (Some n) Circle)
-    (ap (λ (e : Entry). e.name) (c.record-at-in-Cycle.ensures ∙ ap (λ (es : List Entry). get_or es c.in-Cycle.i blank) c.requires.0) ∙ name_is c.args.store.now c.in-Cycle.i)
+    (ap (λ (e : Entry). e.name) (c.record_at-in-Cycle.ensures ∙ ap (λ (es : List Entry). get_or es c.in-Cycle.i blank) c.requires.directory_value) ∙ name_is c.args.store.now c.in-Cycle.i)
     ∙ sym (ap (order_fault g.C.Core.words (units c.args.store.now)) c.in-Cycle.is)

@@ -1,4 +1,4 @@
-use Rattle.std.proofs.Common.{◌≡◌, ℕ, ◌^◌, ◌<◌, List, length, get_or, sym, ap, ◌∙◌, subst, arith}
+use Rattle.std.proofs.Common.{ℕ, List, get_or, ap, ◌∙◌, subst, arith}
 use Rattle.store.specs.declared.entry.Entry.{Entry}
 use Rattle.store.specs.Entries.{blank}
 use Rattle.store.specs.Layout.{stored}
@@ -6,7 +6,6 @@ use Rattle.store.specs.Units.{units}
 use Rattle.project.specs.Loading.{heads_of, unit_at}
 use Rattle.project.specs.Naming.{NamingOf}
 use Rattle.project.proofs.Viewed.{named_needs, named_within, named_missing, rank_is}
-use Rattle.project.proofs.loading.unit_seen.Given as given
 use Rattle.project.proofs.loading.unit_seen.Goals as goal
 
 pub returns : goal.returns
@@ -14,14 +13,14 @@ returns g c =
     let s = c.args.store.now in
     let ws = g.C.Core.words in
     let text = (unit_at (units s) c.args.i).text in
-    let f = c.text-named-found.result in
+    let f = c.text_named-found.result in
     let n : NamingOf (stored s) text (heads_of ws text) f =
-    subst (λ (t : List ℕ). NamingOf (stored s) t (heads_of ws t) f) c.text-at.ensures
-    (subst (λ (es : List Entry). NamingOf es c.text-at.result.now (heads_of ws c.text-at.result.now) f) c.requires.0 c.text-named-found.ensures) in
+    subst (λ (t : List ℕ). NamingOf (stored s) t (heads_of ws t) f) c.text_at.ensures
+    (subst (λ (es : List Entry). NamingOf es c.text_at.result.now (heads_of ws c.text_at.result.now) f) c.requires.directory_value c.text_named-found.ensures) in
     record {
-      rank = ap (λ (e : Entry). e.rank) (c.record-at.ensures ∙ ap (λ (es : List Entry). get_or es c.args.i blank) c.requires.0) ∙ rank_is s c.args.i;
-      name = c.name-at.ensures;
+      rank = ap (λ (e : Entry). e.rank) (c.record_at.ensures ∙ ap (λ (es : List Entry). get_or es c.args.i blank) c.requires.directory_value) ∙ rank_is s c.args.i;
+      name = c.name_at.ensures;
       needs = named_needs ws s text f n;
       within = named_within ws s text f n (omega arith);
-      misses = c.is-some.ensures ∙ (named_missing ws s text f n).1;
+      misses = c.is_some.ensures ∙ (named_missing ws s text f n).1;
     }
