@@ -132,7 +132,7 @@ pub struct Fault<K> {
 }
 
 // The cause of a call that asks no core: there is none.
-#[derive(Clone, Copy, PartialEq, Eq, Debug)]
+#[derive(Clone, Copy)]
 pub enum NoCause {}
 
 // What reading refuses, put refuses.
