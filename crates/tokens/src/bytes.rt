@@ -4,7 +4,7 @@ ghost use Rattle.std.specs.List.{prefix_len};
 ghost use Rattle.tokens.specs.Bytes.{class, goes_on};
 
 // The kinds of bytes that the lexer tells apart.
-#[derive(Clone, Copy)]
+#[derive(Clone, Copy, PartialEq, Eq, Debug)]
 pub enum Class {
     Blank,
     Lower,
@@ -29,7 +29,7 @@ pub fn class_of(b: u8) -> Class
 }
 
 // The runs of bytes that go as far as they can.
-#[derive(Clone, Copy)]
+#[derive(Clone, Copy, PartialEq, Eq, Debug)]
 pub enum Run {
     Blanks,
     Name,

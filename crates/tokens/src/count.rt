@@ -7,7 +7,7 @@ use super::lexer::{LexFault, next};
 use super::token::Token;
 
 // How many tokens of each kind a text has.
-#[derive(Clone, Copy)]
+#[derive(Clone, Copy, PartialEq, Eq, Debug, Default)]
 pub struct Counts {
     pub marks: usize,
     pub keywords: usize,
@@ -39,13 +39,7 @@ impl Counts {
 pub fn count_tokens(text: &[u8]) -> Result<Counts, LexFault>
     ensures { Surveyed text.now result }
 {
-    let mut counts = Counts {
-        marks: 0,
-        keywords: 0,
-        lowers: 0,
-        uppers: 0,
-        integers: 0,
-    };
+    let mut counts = Counts::default();
     let mut from = 0;
     while let Some(found) = next(text, from)? {
         counts = counts.and(found.token);

@@ -28,14 +28,14 @@ pub enum Reason {
 }
 
 // A place of a text where no token stands: its first byte, counted from 0.
-#[derive(Clone, Copy)]
+#[derive(Clone, Copy, PartialEq, Eq, Debug)]
 pub struct LexFault {
     pub reason: Reason,
     pub place: usize,
 }
 
 // A token with the place of its first byte, and the place right behind its last one.
-#[derive(Clone, Copy)]
+#[derive(Clone, Copy, PartialEq, Eq, Debug)]
 pub struct Placed<'a> {
     pub token: Token<'a>,
     pub place: usize,

@@ -33,7 +33,7 @@ pub enum Keyword {
 }
 
 // A token; names and integers are the bytes of the text that spell them.
-#[derive(Clone, Copy)]
+#[derive(Clone, Copy, PartialEq, Eq, Debug)]
 pub enum Token<'a> {
     Mark(Mark),
     Keyword(Keyword),
