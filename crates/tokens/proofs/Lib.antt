@@ -9,3 +9,4 @@ pub mod Survey
 pub mod Unique
 pub mod Walk
 pub mod Words
+pub mod Turns

@@ -188,3 +188,40 @@ pub fn next(text: &[u8], from: usize) -> Result<Option<Placed<'_>>, LexFault>
         Err(reason) => Err(LexFault { reason, place }),
     }
 }
+
+// The tokens of a text one behind the other; behind the first place where none stands it gives nothing more.
+#[derive(Clone, Debug, Drop)]
+pub struct Tokens<'a> {
+    text: &'a [u8],
+    from: usize,
+}
+
+impl<'a> Tokens<'a> {
+    // All tokens of a text. Constant time.
+    pub fn new(text: &'a [u8]) -> Tokens<'a>
+        ensures { (result.text ≡ text.entry) × (result.from ≡ 0) }
+    {
+        Tokens { text, from: 0 }
+    }
+}
+
+impl<'a> Iterator for Tokens<'a> {
+    ghost use Rattle.std.specs.Prelude.{◌-◌, length};
+    ghost use Rattle.std.specs.Iterator.{at_most};
+    ghost use Rattle.tokens.specs.Tokens.{GivesNext};
+
+    type Item = Result<Placed<'a>, LexFault>;
+
+    ghost next_gives = { GivesNext };
+
+    ghost remaining = { λ s. at_most (length s.text.now - s.from) };
+
+    fn next(&mut self) -> Option<Result<Placed<'a>, LexFault>> {
+        let found = next(self.text, self.from).transpose()?;
+        self.from = match found {
+            Ok(x) => x.end,
+            Err(_) => self.text.len(),
+        };
+        Some(found)
+    }
+}
