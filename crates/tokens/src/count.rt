@@ -3,7 +3,7 @@ ghost use Rattle.std.specs.Prelude.{◌≡◌, ◌+◌, ◌^◌, ◌<◌};
 ghost use Rattle.tokens.specs.Counting.{more, total, Surveyed};
 ghost use Rattle.tokens.specs.Lexer.{view};
 
-use super::lexer::{LexFault, next};
+use super::lexer::{LexFault, Tokens};
 use super::token::Token;
 
 // How many tokens of each kind a text has.
@@ -40,10 +40,8 @@ pub fn count_tokens(text: &[u8]) -> Result<Counts, LexFault>
     ensures { Surveyed text.now result }
 {
     let mut counts = Counts::default();
-    let mut from = 0;
-    while let Some(found) = next(text, from)? {
-        counts = counts.and(found.token);
-        from = found.end;
+    for found in Tokens::new(text) {
+        counts = counts.and(found?.token);
     }
     Ok(counts)
 }
