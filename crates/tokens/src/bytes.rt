@@ -15,16 +15,18 @@ pub enum Class {
 }
 
 // The class of a byte. Constant time.
-pub fn class_of(b: u8) -> Class
-    ensures { result ≡ class b }
-{
-    match b {
-        b' ' | b'\t' | b'\n' | b'\r' => Class::Blank,
-        b'a'..=b'z' => Class::Lower,
-        b'A'..=b'Z' => Class::Upper,
-        b'0'..=b'9' => Class::Digit,
-        b'_' => Class::Underscore,
-        _ => Class::Other,
+impl From<u8> for Class {
+    ghost from_gives = { λ b r. r ≡ class b };
+
+    fn from(b: u8) -> Class {
+        match b {
+            b' ' | b'\t' | b'\n' | b'\r' => Class::Blank,
+            b'a'..=b'z' => Class::Lower,
+            b'A'..=b'Z' => Class::Upper,
+            b'0'..=b'9' => Class::Digit,
+            b'_' => Class::Underscore,
+            _ => Class::Other,
+        }
     }
 }
 
@@ -42,12 +44,12 @@ impl Run {
         ensures { result ≡ goes_on self b }
     {
         match self {
-            Run::Blanks => matches!(class_of(b), Class::Blank),
+            Run::Blanks => matches!(Class::from(b), Class::Blank),
             Run::Name => matches!(
-                class_of(b),
+                Class::from(b),
                 Class::Lower | Class::Upper | Class::Digit | Class::Underscore
             ),
-            Run::Digits => matches!(class_of(b), Class::Digit),
+            Run::Digits => matches!(Class::from(b), Class::Digit),
         }
     }
 
@@ -56,10 +58,6 @@ impl Run {
         ensures value { result ≡ prefix_len (goes_on self) bytes.now }
         ensures bound { result ≤ length bytes.now }
     {
-        let mut n = 0;
-        while n < bytes.len() && self.takes(bytes[n]) {
-            n += 1;
-        }
-        n
+        bytes.iter().take_while(|b| self.takes(**b)).count()
     }
 }

@@ -4,7 +4,7 @@ ghost use Rattle.std.specs.List.{prefix_len};
 ghost use Rattle.tokens.specs.Bytes.{is_digit, is_name_byte};
 ghost use Rattle.tokens.specs.Lexer.{single_mark, is_attribute, is_arrow, Behind, MarkAt, word, name_front, integer_front, token_front, TokenAt, view, told, next_token, fault_number};
 
-use super::bytes::{Class, Run, class_of};
+use super::bytes::{Class, Run};
 use super::token::{Mark, Token, keyword_of};
 
 // The longest name, in bytes.
@@ -150,7 +150,7 @@ fn token_at(bytes: &[u8]) -> Result<(Token<'_>, &[u8]), Reason>
     let [b, ..] = bytes else {
         return Err(Reason::Byte);
     };
-    match class_of(*b) {
+    match Class::from(*b) {
         Class::Lower | Class::Upper => name_at(bytes),
         Class::Digit => integer_at(bytes),
         _ => match mark_at(bytes) {
