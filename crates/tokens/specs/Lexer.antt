@@ -36,11 +36,6 @@ is_arrow bs = slice_index bs 0 == 45 && slice_index bs 1 == 62
 abbrev pub mark_of : List ℕ → Option Mark
 mark_of bs = cond (is_attribute bs) (Some OpenAttribute) (cond (is_arrow bs) (Some Arrow) (single_mark (slice_index bs 0)))
 
--- what the code hands out behind the first n bytes, if the test holds of them
-abbrev pub Behind : Bool → ℕ → List ℕ → Option (Bor (List ℕ)) → Type 0
-Behind test n bs None = test ≡ false
-Behind test n bs (Some x) = (test ≡ true) × (x.now ≡ drop n bs)
-
 -- what the code says of the mark at the front, with what is left behind it
 abbrev pub MarkAt : List ℕ → Option (Mark × Bor (List ℕ)) → Type 0
 MarkAt bs None = mark_of bs ≡ None

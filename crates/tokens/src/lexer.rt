@@ -2,7 +2,7 @@
 ghost use Rattle.std.specs.Prelude.{◌≡◌, drop, None};
 ghost use Rattle.std.specs.List.{prefix_len};
 ghost use Rattle.tokens.specs.Bytes.{is_digit, is_name_byte};
-ghost use Rattle.tokens.specs.Lexer.{single_mark, is_attribute, is_arrow, Behind, MarkAt, word, name_front, integer_front, token_front, TokenAt, view, told, next_token, fault_number};
+ghost use Rattle.tokens.specs.Lexer.{MarkAt, word, name_front, integer_front, token_front, TokenAt, view, told, next_token, fault_number};
 
 use super::bytes::{Class, Run};
 use super::token::{Mark, Token, keyword_of};
@@ -51,58 +51,21 @@ impl LexFault {
     }
 }
 
-// The mark that one byte is, if it is one. Constant time.
-fn single_mark(b: u8) -> Option<Mark>
-    ensures { result ≡ single_mark b }
-{
-    match b {
-        b'(' => Some(Mark::Open),
-        b')' => Some(Mark::Close),
-        b':' => Some(Mark::Colon),
-        b'=' => Some(Mark::Equals),
-        b',' => Some(Mark::Comma),
-        b'.' => Some(Mark::Dot),
-        b']' => Some(Mark::CloseAttribute),
-        _ => None,
-    }
-}
-
-// What is left behind `[@@`, if the bytes begin so. Constant time.
-fn behind_attribute(bytes: &[u8]) -> Option<&[u8]>
-    ensures { Behind (is_attribute bytes.now) 3 bytes.now result }
-{
-    match bytes {
-        [b'[', b'@', b'@', rest @ ..] => Some(rest),
-        _ => None,
-    }
-}
-
-// What is left behind `->`, if the bytes begin so. Constant time.
-fn behind_arrow(bytes: &[u8]) -> Option<&[u8]>
-    ensures { Behind (is_arrow bytes.now) 2 bytes.now result }
-{
-    match bytes {
-        [b'-', b'>', rest @ ..] => Some(rest),
-        _ => None,
-    }
-}
-
 // The mark at the front, and what is left behind it. Constant time.
 fn mark_at(bytes: &[u8]) -> Option<(Mark, &[u8])>
     ensures { MarkAt bytes.now result }
 {
-    if let Some(rest) = behind_attribute(bytes) {
-        return Some((Mark::OpenAttribute, rest));
-    }
-    if let Some(rest) = behind_arrow(bytes) {
-        return Some((Mark::Arrow, rest));
-    }
-    let [b, rest @ ..] = bytes else {
-        return None;
-    };
-    match single_mark(*b) {
-        Some(m) => Some((m, rest)),
-        None => None,
+    match bytes {
+        [b'[', b'@', b'@', rest @ ..] => Some((Mark::OpenAttribute, rest)),
+        [b'-', b'>', rest @ ..] => Some((Mark::Arrow, rest)),
+        [b'(', rest @ ..] => Some((Mark::Open, rest)),
+        [b')', rest @ ..] => Some((Mark::Close, rest)),
+        [b':', rest @ ..] => Some((Mark::Colon, rest)),
+        [b'=', rest @ ..] => Some((Mark::Equals, rest)),
+        [b',', rest @ ..] => Some((Mark::Comma, rest)),
+        [b'.', rest @ ..] => Some((Mark::Dot, rest)),
+        [b']', rest @ ..] => Some((Mark::CloseAttribute, rest)),
+        _ => None,
     }
 }
 
@@ -164,7 +127,7 @@ fn token_at(bytes: &[u8]) -> Result<(Token<'_>, &[u8]), Reason>
 fn after(bytes: &[u8], n: usize) -> &[u8]
     ensures { result.now ≡ drop n bytes.now }
 {
-    if n < bytes.len() { &bytes[n..] } else { &[] }
+    bytes.get(n..).unwrap_or(&[])
 }
 
 // The first token at or behind a place, blanks skipped; None where only blanks are left or the place is behind the end.
