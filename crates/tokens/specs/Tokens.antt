@@ -1,5 +1,5 @@
 -- What the iterator over the tokens of a text gives, call by call.
-use Rattle.std.specs.Prelude.{◌≡◌, ℕ, ◌<◌, ◌≤◌, length, Some, None, Ok, Err, Option, Result}
+use Rattle.std.specs.Prelude.{◌≡◌, ◌<◌, ◌≤◌, length, Some, None, Ok, Err, Option, Result}
 use Rattle.tokens.specs.Lexer.{Next, at_end, token, no_token, next_token, view}
 use Rattle.tokens.specs.declared.lexer.LexFault.{LexFault}
 use Rattle.tokens.specs.declared.lexer.Placed.{Placed}

@@ -1,7 +1,7 @@
 // What a single byte of a text can be.
-ghost use Rattle.std.specs.Prelude.{◌≡◌, ◌≤◌, length};
+ghost use Rattle.std.specs.Prelude.{◌≡◌, ◌≤◌, ◌<◌, length, MatchOption};
 ghost use Rattle.std.specs.List.{prefix_len};
-ghost use Rattle.tokens.specs.Bytes.{class, goes_on};
+ghost use Rattle.tokens.specs.Bytes.{class, goes_on, SplitsRun};
 
 // The kinds of bytes that the lexer tells apart.
 #[derive(Clone, Copy, PartialEq, Eq, Debug)]
@@ -59,5 +59,13 @@ impl Run {
         ensures bound { result ≤ length bytes.now }
     {
         bytes.iter().take_while(|b| self.takes(**b)).count()
+    }
+
+    // The run at the front and what is left behind it, if it has at most so many bytes. Linear in the run.
+    pub fn split(self, bytes: &[u8], limit: usize) -> Option<(&[u8], &[u8])>
+        ensures { MatchOption result (limit < prefix_len (goes_on self) bytes.now) (SplitsRun (prefix_len (goes_on self) bytes.now) limit bytes.now) }
+    {
+        let n = self.length(bytes);
+        (n <= limit).then(|| bytes.split_at(n))
     }
 }

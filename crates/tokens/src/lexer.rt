@@ -73,11 +73,7 @@ fn mark_at(bytes: &[u8]) -> Option<(Mark, &[u8])>
 fn name_at(bytes: &[u8]) -> Result<(Token<'_>, &[u8]), Reason>
     ensures { TokenAt (name_front (prefix_len is_name_byte bytes.now) bytes.now) bytes.now result }
 {
-    let n = Run::Name.length(bytes);
-    if n > NAME_LIMIT {
-        return Err(Reason::LongName);
-    }
-    let (name, rest) = bytes.split_at(n);
+    let (name, rest) = Run::Name.split(bytes, NAME_LIMIT).ok_or(Reason::LongName)?;
     match keyword_of(name) {
         Some(k) => Ok((Token::Keyword(k), rest)),
         None => Ok((cased(name), rest)),
@@ -98,11 +94,9 @@ fn cased(name: &[u8]) -> Token<'_>
 fn integer_at(bytes: &[u8]) -> Result<(Token<'_>, &[u8]), Reason>
     ensures { TokenAt (integer_front (prefix_len is_digit bytes.now) bytes.now) bytes.now result }
 {
-    let n = Run::Digits.length(bytes);
-    if n > INTEGER_LIMIT {
-        return Err(Reason::LongInteger);
-    }
-    let (digits, rest) = bytes.split_at(n);
+    let (digits, rest) = Run::Digits
+        .split(bytes, INTEGER_LIMIT)
+        .ok_or(Reason::LongInteger)?;
     Ok((Token::Integer(digits), rest))
 }
 
@@ -123,30 +117,22 @@ fn token_at(bytes: &[u8]) -> Result<(Token<'_>, &[u8]), Reason>
     }
 }
 
-// What lies behind the first n bytes; nothing where there are no more. Constant time.
-fn after(bytes: &[u8], n: usize) -> &[u8]
-    ensures { result.now ≡ drop n bytes.now }
-{
-    bytes.get(n..).unwrap_or(&[])
-}
-
 // The first token at or behind a place, blanks skipped; None where only blanks are left or the place is behind the end.
 // Each byte from the place to the token's end is looked at a constant number of times.
 pub fn next(text: &[u8], from: usize) -> Result<Option<Placed<'_>>, LexFault>
     ensures { told result ≡ next_token text.now from }
 {
-    let ahead = after(text, from);
-    let blanks = Run::Blanks.length(ahead);
-    let bytes = after(ahead, blanks);
+    let ahead = text.get(from..).unwrap_or(&[]);
+    let (_, bytes) = ahead.split_at(Run::Blanks.length(ahead));
     if bytes.is_empty() {
         return Ok(None);
     }
-    let place = from + blanks;
+    let place = text.len() - bytes.len();
     match token_at(bytes) {
         Ok((token, rest)) => Ok(Some(Placed {
             token,
             place,
-            end: place + (bytes.len() - rest.len()),
+            end: text.len() - rest.len(),
         })),
         Err(reason) => Err(LexFault { reason, place }),
     }

@@ -1,7 +1,6 @@
-use Rattle.std.proofs.Common.{◌+◌, ◌^◌, ◌<◌, sym, ap, ◌∙◌, subst, arith}
+use Rattle.std.proofs.Common.{arith}
 use Rattle.std.proofs.lemmas.Result.{err_from_is_err_and}
-use Rattle.tokens.specs.Counting.{total}
-use Rattle.tokens.proofs.Survey.{Sofar, room, again, whole, stopped}
+use Rattle.tokens.proofs.Survey.{room, again, whole, stopped}
 use Rattle.tokens.proofs.Turns.{Turn, turn, turn_fault, turn_end}
 use Rattle.tokens.proofs.count.count_tokens.Goals as goal
 use Rattle.tokens.proofs.count.count_tokens.Goals.{In_ok-found}

@@ -1,4 +1,4 @@
-use Rattle.std.proofs.Common.{◌≡◌, codes, sym, ap, arith, rules}
+use Rattle.std.proofs.Common.{codes, sym, ap, arith, rules}
 use Rattle.std.proofs.lemmas.Slice.Eq.{text_from_reads}
 use Rattle.tokens.specs.Keywords.{keyword_of}
 use Rattle.tokens.proofs.token.keyword_of.Goals as goal
