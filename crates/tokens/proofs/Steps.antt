@@ -1,5 +1,5 @@
 -- What the lexer knows of the places as it goes from one token to the next.
-use Rattle.std.proofs.Common.{◌≡◌, ℕ, ◌+◌, ◌-◌, ◌<◌, List, ◌++◌, length, drop, sym, refl, ap, ◌∙◌, arith, length-append, length-drop}
+use Rattle.std.proofs.Common.{◌≡◌, ℕ, ◌+◌, ◌-◌, ◌<◌, ◌≤◌, List, ◌++◌, length, drop, sym, refl, ap, ◌∙◌, arith, length-append, length-drop}
 use Rattle.std.specs.List.{prefix_len}
 use Rattle.tokens.specs.Bytes.{is_blank}
 use Rattle.tokens.specs.Lexer.{piece, none, token, no_token, token_front, found, next_token, at_end}
@@ -37,6 +37,10 @@ taken : (bytes rest : List ℕ) (p : Piece) → token_front bytes ≡ piece p �
 taken bytes rest p e is =
     let whole = (token_stands bytes p e).whole in
     sym (length-append (written p) rest) ∙ ap (λ l. length (written p ++ l)) is ∙ ap length whole
+
+pub behind_inside : (text bytes rest : List ℕ) (from blanks n : ℕ) → Skipped text from blanks bytes → rest ≡ drop n bytes → length rest ≤ length text
+behind_inside text bytes rest from blanks n s is =
+    omega (arith, ap length is, ap length s.left, length-drop n bytes, length-drop blanks (drop from text), length-drop from text)
 
 -- the next token, by how long the text is from its place and from its end
 pub token_found : (text bytes rest : List ℕ) (from blanks : ℕ) (p : Piece) → Skipped text from blanks bytes → 0 < length bytes → token_front bytes ≡ piece p → rest ≡ drop (length (written p)) bytes → token p (length text - length bytes) (length text - length rest) ≡ next_token text from

@@ -1,6 +1,6 @@
 use Rattle.std.proofs.Common.{◌≡◌, ◌<◌, length, drop, sym, arith, true-eqb, false-eqb}
 use Rattle.std.proofs.lemmas.Grind.{common_steps}
-use Rattle.tokens.proofs.Steps.{Skipped, skips, none_left, token_found, none_found}
+use Rattle.tokens.proofs.Steps.{Skipped, skips, none_left, behind_inside, token_found, none_found}
 use Rattle.tokens.proofs.lexer.next.Goals as goal
 use Rattle.tokens.proofs.lexer.next.Goals.{After-is_empty}
 
@@ -13,6 +13,11 @@ skipped c =
 pub returns-then-is_empty : goal.returns-then-is_empty
 returns-then-is_empty c =
     sym (none_left _ _ _ _ (skipped (goal.at.returns-then-is_empty c).After-is_empty) (true-eqb (length c.split_at.result.1.now) 0 c.if-is_empty.ensures))
+
+pub overflow_sub-result : goal.overflow_sub-result
+overflow_sub-result c =
+    let s = skipped (goal.at.overflow_sub-result c).After-is_empty in
+    behind_inside _ _ _ _ _ _ s c.in-Ok.ensures.1
 
 pub returns-in-Ok : goal.returns-in-Ok
 returns-in-Ok c =

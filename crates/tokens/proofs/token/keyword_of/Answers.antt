@@ -11,3 +11,11 @@ returns-in-struct c = ap keyword_of (sym (text_from_reads c.args.name.now (codes
 
 pub returns-in-functor : goal.returns-in-functor
 returns-in-functor c = ap keyword_of (sym (text_from_reads c.args.name.now (codes "functor") (omega arith) (search rules)))
+
+pub returns-in-type : goal.returns-in-type
+returns-in-type c =
+    ap keyword_of (sym (text_from_reads c.args.name.now (codes "type") (omega arith) (search rules)))
+
+pub returns-in-rank : goal.returns-in-rank
+returns-in-rank c =
+    ap keyword_of (sym (text_from_reads c.args.name.now (codes "rank") (omega arith) (search rules)))
