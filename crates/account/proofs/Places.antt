@@ -1,5 +1,6 @@
 -- The line and the column of the place behind one more byte.
-use Rattle.std.proofs.Common.{◌≡◌, ℕ, ◌+◌, ◌-◌, ◌<◌, ◌≤◌, true, false, not, List, length, get_or, take, drop, ap, ◌∙◌, arith, length-take-le, eq-eqb, ne_eqb}
+use Rattle.std.proofs.Common.{◌≡◌, ℕ, ◌+◌, ◌-◌, ◌<◌, ◌≤◌, true, false, not, List, length, min, get_or, take, drop, ap, ◌∙◌, arith, length-take, length-drop, length-take-le, eq-eqb, ne_eqb}
+use Rattle.std.proofs.lemmas.List.{get_or-take, get_or-drop}
 use Rattle.std.proofs.lemmas.List.Sums.{count_by_more_yes, count_by_more_no, count_by-le-length, suffix_len-take_yes, suffix_len-take_no, suffix_len-le-length}
 use Rattle.std.proofs.lemmas.Slice.{between_to_end}
 use Rattle.std.specs.List.{prefix_len, suffix_len}
@@ -38,3 +39,13 @@ line_is text place column n here before run =
     ap (λ k. take k (drop (place - column) text)) long
     ∙ ap (λ c. take (c + n) (drop (place - c) text)) here
     ∙ ap (λ k. take (column_of text place + k) (drop (place - column_of text place) text)) rest
+
+-- a byte between two places, by its place in the text
+pub passed_at : (text passed : List ℕ) (from to i : ℕ) → passed ≡ take (min to (length text) - from) (drop from text) → i < length passed → (from + i < length text) × (get_or passed i 0 ≡ get_or text (from + i) 0)
+passed_at text passed from to i is h =
+    let n = min to (length text) - from in
+    let long = ap length is ∙ length-take n (drop from text) in
+    let inside : i < n = omega (arith, long) in (
+      omega (arith, long, length-drop from text),
+      ap (λ l. get_or l i 0) is ∙ get_or-take n (drop from text) i 0 inside ∙ get_or-drop from text i 0,
+    )

@@ -1,8 +1,6 @@
--- The words for kinds of tokens and for reasons, and how a byte is shown.
+-- The words for kinds of tokens, and how a byte is shown.
 use Rattle.std.specs.Prelude.{ℕ, cond, ◌&&◌, List, codes, ◌==◌, nat_le}
 use Rattle.tokens.specs.Pieces.{Piece, blank, mark, keyword, lower, upper, integer}
-use Rattle.tokens.specs.declared.lexer.Reason.{Reason}
-use Rattle.tokens.specs.declared.lexer.Reason.TheVariants.{Byte, LongName, LongInteger}
 
 abbrev pub kind_words : Piece → List ℕ
 kind_words (blank _) = codes "blank"
@@ -11,12 +9,6 @@ kind_words (keyword _) = codes "keyword"
 kind_words (lower _) = codes "lower name"
 kind_words (upper _) = codes "upper name"
 kind_words (integer _) = codes "integer"
-
--- what a reader is told where no token stands
-abbrev pub reason_words : Reason → List ℕ
-reason_words Byte = codes "no token begins with this byte"
-reason_words LongName = codes "a name has at most 16 bytes, and this one goes on"
-reason_words LongInteger = codes "an integer has at most 9 digits, and this one goes on"
 
 -- a byte on a screen: printable ones as they are, a tab as a space, others as a question mark
 abbrev pub shown_byte : ℕ → ℕ

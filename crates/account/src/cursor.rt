@@ -4,14 +4,14 @@ ghost use Rattle.std.specs.List.{prefix_len};
 ghost use Rattle.account.specs.Lines.{stays_on_line, line_of, column_of, line_around};
 
 // A line and a column, both from 0.
-#[derive(Clone, Copy)]
+#[derive(Clone, Copy, PartialEq, Eq, Debug)]
 pub struct Position {
     pub line: usize,
     pub column: usize,
 }
 
 // A place in a text, with the line feeds before it and the bytes since the last of them. Both count from 0.
-#[derive(Clone, Copy)]
+#[derive(Clone, Copy, PartialEq, Eq, Debug)]
 pub struct Cursor<'a> {
     text: &'a [u8],
     place: usize,
@@ -50,22 +50,23 @@ impl<'a> Cursor<'a> {
     pub fn forward(self, place: usize) -> Cursor<'a>
         ensures { (result.text ≡ self.entry.text) × (result.place ≡ max self.entry.place (min place (length self.entry.text.now))) }
     {
-        let text = self.text;
-        let mut at = self.place;
+        let passed = self
+            .text
+            .get(self.place..place.min(self.text.len()))
+            .unwrap_or(&[]);
         let mut line = self.line;
         let mut column = self.column;
-        while at < place && at < text.len() {
-            if text[at] == b'\n' {
+        for b in passed {
+            if *b == b'\n' {
                 line += 1;
                 column = 0;
             } else {
                 column += 1;
             }
-            at += 1;
         }
         Cursor {
-            text,
-            place: at,
+            text: self.text,
+            place: self.place + passed.len(),
             line,
             column,
         }
@@ -86,9 +87,5 @@ fn before_feed(bytes: &[u8]) -> usize
     ensures value { result ≡ prefix_len stays_on_line bytes.now }
     ensures bound { result ≤ length bytes.now }
 {
-    let mut n = 0;
-    while n < bytes.len() && bytes[n] != b'\n' {
-        n += 1;
-    }
-    n
+    bytes.iter().take_while(|b| **b != b'\n').count()
 }

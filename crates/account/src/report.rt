@@ -1,18 +1,17 @@
 // The account of a unit's text, printed line by line.
 // No contract speaks of what is printed: the programs' stored outputs hold it.
-ghost use Rattle.account.specs.Following.{Follows};
 
 use super::cursor::{Cursor, Position};
-use super::wording::{kind_words, reason_words, shown_byte};
+use super::wording::{Kind, shown_byte};
 use std::{fmt, io};
 use tokens::count::{Counts, count_tokens};
-use tokens::lexer::{LexFault, Placed, next};
+use tokens::lexer::{LexFault, Placed, Tokens};
 
 // The longest text of a unit, in bytes.
 pub const TEXT_LIMIT: usize = 4000;
 
 // Bytes of a text, each shown in one column.
-#[derive(Clone, Copy)]
+#[derive(Clone, Copy, PartialEq, Eq, Debug)]
 pub struct Shown<'a>(pub &'a [u8]);
 
 impl fmt::Display for Shown<'_> {
@@ -25,7 +24,7 @@ impl fmt::Display for Shown<'_> {
 }
 
 // A line and a column as editors count them, from 1.
-#[derive(Clone, Copy)]
+#[derive(Clone, Copy, PartialEq, Eq, Debug)]
 pub struct FromOne(pub Position);
 
 impl fmt::Display for FromOne {
@@ -36,23 +35,10 @@ impl fmt::Display for FromOne {
     }
 }
 
-// A row of spaces as long as a column is far.
-#[derive(Clone, Copy)]
-pub struct Indent(pub usize);
-
-impl fmt::Display for Indent {
-    fn fmt<W: fmt::Write>(&self, f: &mut fmt::Formatter<W>) -> fmt::Result {
-        for _ in 0..self.0 {
-            write!(f, " ")?;
-        }
-        Ok(())
-    }
-}
-
 // One line for a token: line and column from 1, its kind, and its bytes.
 fn print_token(rt: &impl Print, at: Cursor<'_>, found: Placed<'_>, text: &[u8]) -> io::Result<()> {
     let here = FromOne(at.position());
-    let kind = kind_words(found.token);
+    let kind = Kind(found.token);
     let spelling = Shown(text.get(found.place..found.end).unwrap_or(b""));
     println!(rt; "  {here}  {kind}  {spelling}")
 }
@@ -72,33 +58,21 @@ fn print_counts(rt: &impl Print, counts: Counts) -> io::Result<()> {
 
 // A fault as compilers show it: file, line and column with a sentence, the line, and a caret under the place.
 fn print_fault(rt: &impl Print, file: &str, at: Cursor<'_>, fault: LexFault) -> io::Result<()> {
-    let here = FromOne(at.position());
-    let sentence = reason_words(fault.reason);
+    let position = at.position();
+    let here = FromOne(position);
     let shown = Shown(at.line_text());
-    let indent = Indent(at.position().column);
-    println!(rt; "{file}:{here}: {sentence}")?;
+    let column = position.column;
+    println!(rt; "{file}:{here}: {fault}")?;
     println!(rt; "  | {shown}")?;
-    println!(rt; "  | {indent}^")
-}
-
-// The next token from a place on; none at the end of the text, nor where none stands.
-fn token_from(text: &[u8], from: usize) -> Option<Placed<'_>>
-    ensures { Follows text.now from result }
-{
-    match next(text, from) {
-        Ok(found) => found,
-        Err(_) => None,
-    }
+    println!(rt; "  | {:column$}^", "")
 }
 
 // A line for each token, in the order of the text. One pass over it.
 fn print_tokens(rt: &impl Print, text: &[u8]) -> io::Result<()> {
     let mut at = Cursor::new(text);
-    let mut from = 0;
-    while let Some(found) = token_from(text, from) {
+    for found in Tokens::new(text).map_while(Result::ok) {
         at = at.forward(found.place);
         print_token(rt, at, found, text)?;
-        from = found.end;
     }
     Ok(())
 }

@@ -1,32 +1,29 @@
 // Words for what the lexer tells.
 ghost use Rattle.std.specs.Prelude.{◌≡◌};
-ghost use Rattle.account.specs.Wording.{kind_words, reason_words, shown_byte};
-ghost use Rattle.tokens.specs.Lexer.{view};
+ghost use Rattle.account.specs.Wording.{shown_byte};
 
-use tokens::lexer::Reason;
+use std::fmt;
 use tokens::token::Token;
 
-// What kind of token it is, in words. Constant time.
-pub fn kind_words(token: Token<'_>) -> &'static str
-    ensures { result.now ≡ kind_words (view token.entry) }
-{
-    match token {
-        Token::Mark(_) => "mark",
-        Token::Keyword(_) => "keyword",
-        Token::Lower(_) => "lower name",
-        Token::Upper(_) => "upper name",
-        Token::Integer(_) => "integer",
-    }
-}
+// What kind of token it is, in words.
+#[derive(Clone, Copy, PartialEq, Eq, Debug)]
+pub struct Kind<'a>(pub Token<'a>);
 
-// Why no token stands at a place, in a sentence. Constant time.
-pub fn reason_words(reason: Reason) -> &'static str
-    ensures { result.now ≡ reason_words reason }
-{
-    match reason {
-        Reason::Byte => "no token begins with this byte",
-        Reason::LongName => "a name has at most 16 bytes, and this one goes on",
-        Reason::LongInteger => "an integer has at most 9 digits, and this one goes on",
+impl fmt::Display for Kind<'_> {
+    ghost use Rattle.std.specs.Prelude.{Some};
+    ghost use Rattle.account.specs.Wording.{kind_words};
+    ghost use Rattle.tokens.specs.Lexer.{view};
+
+    ghost output = { λ k. Some (kind_words (view k.0)) };
+
+    fn fmt<W: fmt::Write>(&self, f: &mut fmt::Formatter<W>) -> fmt::Result {
+        f.write_str(match self.0 {
+            Token::Mark(_) => "mark",
+            Token::Keyword(_) => "keyword",
+            Token::Lower(_) => "lower name",
+            Token::Upper(_) => "upper name",
+            Token::Integer(_) => "integer",
+        })
     }
 }
 

@@ -5,3 +5,4 @@ pub mod Lexer
 pub mod Integers
 pub mod Counting
 pub mod Tokens
+pub mod Wording

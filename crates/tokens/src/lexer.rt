@@ -6,6 +6,8 @@ ghost use Rattle.tokens.specs.Lexer.{MarkAt, word, name_front, integer_front, to
 
 use super::bytes::{Class, Run};
 use super::token::{Mark, Token, keyword_of};
+use std::error::Error;
+use std::fmt;
 
 // The longest name, in bytes.
 pub const NAME_LIMIT: usize = 16;
@@ -27,6 +29,22 @@ pub enum Reason {
     LongInteger,
 }
 
+// Why no token stands at a place, in a sentence.
+impl fmt::Display for Reason {
+    ghost use Rattle.std.specs.Prelude.{Some};
+    ghost use Rattle.tokens.specs.Wording.{reason_words};
+
+    ghost output = { λ r. Some (reason_words r) };
+
+    fn fmt<W: fmt::Write>(&self, f: &mut fmt::Formatter<W>) -> fmt::Result {
+        f.write_str(match self {
+            Reason::Byte => "no token begins with this byte",
+            Reason::LongName => "a name has at most 16 bytes, and this one goes on",
+            Reason::LongInteger => "an integer has at most 9 digits, and this one goes on",
+        })
+    }
+}
+
 // A place of a text where no token stands: its first byte, counted from 0.
 #[derive(Clone, Copy, PartialEq, Eq, Debug)]
 pub struct LexFault {
@@ -41,6 +59,20 @@ pub struct Placed<'a> {
     pub place: usize,
     pub end: usize,
 }
+
+// The reason, in its sentence: the place is told apart, by line and column.
+impl fmt::Display for LexFault {
+    ghost use Rattle.std.specs.Prelude.{Some};
+    ghost use Rattle.tokens.specs.Wording.{reason_words};
+
+    ghost output = { λ e. Some (reason_words e.reason) };
+
+    fn fmt<W: fmt::Write>(&self, f: &mut fmt::Formatter<W>) -> fmt::Result {
+        self.reason.fmt(f)
+    }
+}
+
+impl Error for LexFault {}
 
 impl LexFault {
     // The number of the question that such a text answers with no. Constant time.

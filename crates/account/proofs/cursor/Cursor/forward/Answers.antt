@@ -1,21 +1,31 @@
-use Rattle.std.proofs.Common.{arith}
-use Rattle.account.proofs.Places.{behind_feed, behind_other, line_small}
+use Rattle.std.proofs.Common.{◌≡◌, ◌+◌, ◌-◌, min, length, take, drop, sym, ◌∙◌, arith}
+use Rattle.std.proofs.lemmas.Grind.{common_steps}
+use Rattle.account.proofs.Places.{behind_feed, behind_other, line_small, passed_at}
 use Rattle.account.proofs.cursor.Cursor.forward.Goals as goal
-use Rattle.account.proofs.cursor.Cursor.forward.Goals.{then-text-at-eq10, else-text-at-eq10}
-
-pub overflow_add-line : goal.overflow_add-line
-overflow_add-line c = omega (arith, (line_small c.args.self.text.now c.loop-at.at c.loop-at.invariant.0).0)
+use Rattle.account.proofs.cursor.Cursor.forward.Goals.{then-b-eq10, else-b-eq10}
 
 pub overflow_add-column : goal.overflow_add-column
-overflow_add-column c = omega (arith, (line_small c.args.self.text.now c.loop-at.at c.loop-at.invariant.0).1)
+overflow_add-column c =
+    let text = c.args.self.text.now in
+    let from = c.args.self.place in
+    let passed : c.unwrap_or-passed.result.now ≡ take (min c.args.place (length text) - from) (drop from text) = grind (arith, common_steps) in
+    let here = passed_at text _ from c.args.place c.loop-b.b-index passed c.loop-b-test.true in
+    omega (arith, here.0, c.loop-b.invariant.1, (line_small text (from + c.loop-b.b-index) (omega (arith, here.0))).1, c.args.self.within)
 
-pub loop-at-preserved : goal.loop-at-preserved
-loop-at-preserved c =
-    elim c.if-text-at-eq10.branch [
-      | then-text-at-eq10 w ↦
-          let next = behind_feed c.args.self.text.now c.loop-at.at (omega arith) (omega arith) in
-          (omega arith, omega arith, omega arith, omega (arith, next.0, w.line-is), omega (arith, next.1, w.column-is))
-      | else-text-at-eq10 w ↦
-          let next = behind_other c.args.self.text.now c.loop-at.at (omega arith) (λ e. omega arith) in
-          (omega arith, omega arith, omega arith, omega (arith, next.0, w.line-is), omega (arith, next.1, w.column-is))
+pub loop-b-preserved : goal.loop-b-preserved
+loop-b-preserved c =
+    let text = c.args.self.text.now in
+    let from = c.args.self.place in
+    let at = from + c.loop-b.b-index in
+    let passed : c.unwrap_or-passed.result.now ≡ take (min c.args.place (length text) - from) (drop from text) = grind (arith, common_steps) in
+    let here = passed_at text _ from c.args.place c.loop-b.b-index passed c.loop-b-test.true in
+    let on : from + (c.loop-b.b-index + 1) ≡ at + 1 = omega arith in
+    rw on
+    elim c.if-b-eq10.branch [
+      | then-b-eq10 w ↦
+          let next = behind_feed text at here.0 (sym here.1 ∙ w.if-b-eq10.true) in
+          (omega (arith, next.0, w.line-is), omega (arith, next.1, w.column-is))
+      | else-b-eq10 w ↦
+          let next = behind_other text at here.0 (λ e. w.if-b-eq10.false (here.1 ∙ e)) in
+          (omega (arith, next.0, w.line-is), omega (arith, next.1, w.column-is))
     ]
