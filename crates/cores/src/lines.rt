@@ -7,7 +7,7 @@ ghost use Rattle.cores.specs.declared.interface.Refusal.TheVariants.{Cause};
 
 use crate::interface::Refusal;
 use std::fmt;
-use types::words::{after, are_types, copy_run, front, same_run, type_end};
+use types::words::{are_types, copy_run, split_type};
 
 // The position of an argument, from 1.
 #[derive(Clone, Copy, PartialEq, Eq, Debug)]
@@ -70,35 +70,23 @@ fn placed_word(base: u32, word: u32) -> u32
     base.wrapping_add(word)
 }
 
-// What a variable stands for once it has met these words: them, or the same that it stood for.
-fn settled<'a>(known: Option<&'a [u32]>, met: &'a [u32]) -> Option<&'a [u32]>
-    ensures { option_map (λ x. x.now) result ≡ settle_words (option_map (λ x. x.now) known.entry) met.now }
-{
-    match known {
-        None => Some(met),
-        Some(words) if same_run(words, met) => Some(words),
-        Some(_) => None,
-    }
-}
-
-// The words of a variable once it has met the next type, and the words behind that type.
+// What a variable stands for once it has met the next type, and the words behind that type: the type's words,
+// unless the variable stood for others.
 fn bind<'a>(known: Option<&'a [u32]>, rest: &'a [u32]) -> Option<(&'a [u32], &'a [u32])>
     ensures { option_map (λ x. (x.0.now, x.1.now)) result ≡ bound (option_map (λ x. x.now) known.entry) rest.now }
 {
-    let end = type_end(rest)?;
-    let words = settled(known, front(rest, end))?;
-    Some((words, after(rest, end)))
+    let (met, behind) = split_type(rest)?;
+    match known {
+        Some(words) if words != met => None,
+        _ => Some((met, behind)),
+    }
 }
 
 // The words behind the label wanted, if that is the first word.
 fn behind_label<'a>(word: u32, rest: &'a [u32]) -> Option<&'a [u32]>
     ensures { option_map (λ x. x.now) result ≡ behind word rest.now }
 {
-    if !rest.is_empty() && rest[0] == word {
-        Some(after(rest, 1))
-    } else {
-        None
-    }
+    rest.strip_prefix(&[word])
 }
 
 // One item of a line.
