@@ -4,7 +4,7 @@ use mathlib.Core.Bool.{false≢true}
 use Rattle.std.proofs.lemmas.List.{drop_more, drop_all, take_at, drop_at, length-take-le, append_assoc, append-nil}
 use Rattle.std.proofs.lemmas.Bool.Decides.{nat_tests}
 use Rattle.types.specs.Words.{pasted}
-use Rattle.cores.specs.Steps.{Reached, step, proceed, run, item_words, result_words, within32}
+use Rattle.cores.specs.Steps.{Reached, step, proceed, run, item_words, result_words}
 use Rattle.cores.specs.declared.lines.Item.{Item}
 use Rattle.cores.specs.declared.lines.Item.TheVariants.{Arg}
 

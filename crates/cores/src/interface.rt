@@ -7,21 +7,21 @@ ghost use Rattle.cores.specs.Answers.{reply, leaves, question_number};
 ghost use Rattle.cores.specs.declared.interface.Operation.{Operation};
 
 // What a word is: a label with so many parts, or an operator with so many arguments.
-#[derive(Clone, Copy)]
+#[derive(Clone, Copy, PartialEq, Eq, Debug)]
 pub enum Kind {
     Label(u8),
     Operator(u8),
 }
 
 // A word that a name was found to be: its number among the words, and its kind.
-#[derive(Clone, Copy)]
+#[derive(Clone, Copy, PartialEq, Eq, Debug)]
 pub struct Found {
     pub number: u32,
     pub kind: Kind,
 }
 
 // What a rule is asked about: the integer literal, the function, or an operator by its number among the words.
-#[derive(Clone, Copy)]
+#[derive(Clone, Copy, PartialEq, Eq, Debug)]
 pub enum Operation {
     Literal,
     Function,

@@ -13,7 +13,7 @@ use crate::lines::{Line, Position, answer_line};
 use std::fmt;
 
 // A layer's cause: the position of the first wrong argument of an operator of its own, or the whole cause from below.
-#[derive(Clone, Copy)]
+#[derive(Clone, Copy, PartialEq, Eq, Debug)]
 pub enum LayerCause<K> {
     Own(u32),
     Below(K),
@@ -96,7 +96,7 @@ pub trait Layer {
 }
 
 // A layer over a core. Where label numbers would pass 30 bits the layer adds nothing.
-#[derive(Clone, Copy)]
+#[derive(Clone, Copy, PartialEq, Eq, Debug)]
 pub struct Layered<L, C> {
     pub layer: L,
     pub below: C,

@@ -13,11 +13,11 @@ use crate::lines::{Line, Position, answer_line};
 use std::fmt;
 use tokens::token::same_bytes;
 
-#[derive(Clone, Copy)]
+#[derive(Clone, Copy, PartialEq, Eq, Debug, Default)]
 pub struct MiniC;
 
 // The position of the first wrong argument, and whether the operator's line writes `ptr` there.
-#[derive(Clone, Copy)]
+#[derive(Clone, Copy, PartialEq, Eq, Debug)]
 pub struct CCause {
     pub position: u32,
     pub pointer: bool,

@@ -9,7 +9,7 @@ use crate::lines::Item::{Arg, End, Label, Rho, Tau};
 use crate::lines::Line;
 use tokens::token::same_bytes;
 
-#[derive(Clone, Copy)]
+#[derive(Clone, Copy, PartialEq, Eq, Debug, Default)]
 pub struct Pairs;
 
 // Pairs over a core.
