@@ -11,8 +11,11 @@ use Rattle.std.specs.Option.{option_map}
 use Rattle.std.specs.Str.{bytes_eq}
 use Rattle.types.specs.Types.{Name}
 use Rattle.cores.specs.Meaning.{Word, lookup_from, lookup, name_if_label, label_name_from, label_name}
-use Rattle.cores.specs.Steps.{Items}
-use Rattle.cores.specs.Tables.{tabled, row, row_at, joined}
+use Rattle.cores.specs.Lines.{Line, Entry as Own, label, operator, line_from}
+use Rattle.cores.specs.Steps.{Items, itemized}
+use Rattle.cores.specs.declared.interface.Operation.{Operation}
+use Rattle.cores.specs.declared.interface.Operation.TheVariants.{Literal, Function, Operator}
+use Rattle.cores.specs.Tables.{tabled, row, row_at, joined, Rows, operation_row}
 use Rattle.cores.specs.declared.interface.Found.{Found}
 use Rattle.cores.specs.declared.table.Entry.{Entry}
 
@@ -87,3 +90,45 @@ row_of es n o e = ap joined (slice_get-map row es n ∙ ap (option_map row) e)
 pub got : (es : List Entry) (i : ℕ) (r : Option (Bor Entry)) → IsItemAt es i r → slice_get es i ≡ option_map (λ x. x.now) r
 got es i None h = slice_get_past es i h.3
 got es i (Some x) h = slice_get_read es (length es) i x.now refl h.3.0 h.1
+
+-- the row of an own word
+abbrev pub own_row : Own → Option Items
+own_row (label x n) = None
+own_row (operator x l) = Some (itemized l)
+
+line_before : (es : List Own) (k n : ℕ) → n < k → line_from k es n ≡ None
+line_before [] k n h = refl
+line_before (label x m ∷ es) k n h = line_before es (suc k) n (omega arith)
+line_before (operator x l ∷ es) k n h =
+    let t : nat_eq n k ≡ false = grind (arith, nat_tests) in
+    ap (λ (c : Bool). cond c (Some l) (line_from (suc k) es n)) t ∙ line_before es (suc k) n (omega arith)
+
+line_place : (es : List Own) (k n : ℕ) → row_at (map own_row es) n ≡ option_map (λ l. itemized l) (line_from k es (k + n))
+line_place [] k n = refl
+line_place (label x m ∷ es) k zero = sym (ap (option_map (λ l. itemized l)) (line_before es (suc k) (k + 0) (omega arith)))
+line_place (label x m ∷ es) k (suc n) =
+    let i : suc k + n ≡ k + suc n = omega arith in
+    line_place es (suc k) n ∙ ap (λ j. option_map (λ l. itemized l) (line_from (suc k) es j)) i
+line_place (operator x l ∷ es) k zero =
+    let t : nat_eq (k + 0) k ≡ true = grind (arith, nat_tests) in
+    sym (ap (λ (c : Bool). option_map (λ l. itemized l) (cond c (Some l) (line_from (suc k) es (k + 0)))) t)
+line_place (operator x l ∷ es) k (suc n) =
+    let t : nat_eq (k + suc n) k ≡ false = grind (arith, nat_tests) in
+    let i : suc k + n ≡ k + suc n = omega arith in
+    line_place es (suc k) n ∙ ap (λ j. option_map (λ l. itemized l) (line_from (suc k) es j)) i
+    ∙ sym (ap (λ (c : Bool). option_map (λ l. itemized l) (cond c (Some l) (line_from (suc k) es (k + suc n)))) t)
+
+-- the lines of a table are those of own words with the same rows
+table_line : (es : List Own) (n : ℕ) → row_at (map own_row es) n ≡ option_map (λ l. itemized l) (line_from 0 es n)
+table_line es n =
+    let z : 0 + n ≡ n = omega arith in
+    line_place es 0 n ∙ ap (λ j. option_map (λ l. itemized l) (line_from 0 es j)) z
+
+-- the lines of a language are those written, where its rows are
+pub language_lines : (line : Operation → Option Line) (es : List Own) (r : Rows) → ((n : ℕ) → line (Operator n) ≡ line_from 0 es n) →
+    Some r.literal ≡ option_map (λ l. itemized l) (line Literal) → Some r.function ≡ option_map (λ l. itemized l) (line Function) →
+    r.words ≡ map own_row es → (o : Operation) → operation_row r o ≡ option_map (λ l. itemized l) (line o)
+language_lines line es r e a b w Literal = a
+language_lines line es r e a b w Function = b
+language_lines line es r e a b w (Operator n) =
+    ap (λ rs. row_at rs n) w ∙ table_line es n ∙ ap (option_map (λ l. itemized l)) (sym (e n))

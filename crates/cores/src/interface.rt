@@ -28,26 +28,6 @@ pub enum Operation {
     Operator(u32),
 }
 
-// A label of this number with so many parts. Constant time.
-pub(crate) fn label(number: u32, parts: u8) -> Option<Found>
-    ensures { result ≡ Some (record { number = number; kind = Kind.Label parts }) }
-{
-    Some(Found {
-        number,
-        kind: Kind::Label(parts),
-    })
-}
-
-// An operator of this number with so many arguments. Constant time.
-pub(crate) fn operator(number: u32, arguments: u8) -> Option<Found>
-    ensures { result ≡ Some (record { number = number; kind = Kind.Operator arguments }) }
-{
-    Some(Found {
-        number,
-        kind: Kind::Operator(arguments),
-    })
-}
-
 // Why there is no type: the core's cause, a type of over 32 labels and leaves, arguments that are no whole types,
 // or a result slice that is too short. The first of these that holds is told, in this order:
 // arguments, cause, size, short.

@@ -128,11 +128,7 @@ impl<'a> Progress<'a> {
     }
 
     // Puts the words of an item of a result behind others, unless they are then over 32; a variable that met nothing is 0.
-    fn push_words(
-        self,
-        item: Item,
-        words: &mut ArrayVec<u32, LIMIT>,
-    ) -> Result<(), CapacityError>
+    fn push_words(self, item: Item, words: &mut ArrayVec<u32, LIMIT>) -> Result<(), CapacityError>
         ensures over { OnErr result (32 < length words.old.items + length (item_words self.entry.base (reached self.entry) item)) }
         ensures ok { OnOk result (words.new.items ≡ words.old.items ++ item_words self.entry.base (reached self.entry) item) }
     {

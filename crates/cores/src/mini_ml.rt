@@ -1,15 +1,12 @@
 // Mini-ML: int, bool and arrow; true, add, choose and apply.
-ghost use Rattle.cores.specs.MiniMl.{ml_line, ml_words, ml_rule};
-ghost use Rattle.std.specs.Prelude.{◌≡◌};
-ghost use Rattle.std.specs.Option.{option_map};
-ghost use Rattle.cores.specs.Steps.{row_items, itemized};
+ghost use Rattle.cores.specs.MiniMl.{ml_words, ml_rule};
 ghost use Rattle.cores.specs.Shipped.{ml_stable};
 ghost use Rattle.std.proofs.Common.{rules};
 
 use crate::interface::{Core, Found, Kind, Operation, Refusal};
 use crate::lines::Item::{Arg, End, Label, Rho, Tau};
 use crate::lines::{Line, Position, answer_line};
-use crate::table::{Entry, find_word, label_word, operator_line};
+use crate::table::{Entry, Language, find_word, label_word};
 
 #[derive(Clone, Copy, PartialEq, Eq, Debug, Default)]
 pub struct MiniMl;
@@ -20,62 +17,65 @@ const BOOL: u32 = 0x4000_0001;
 
 const ARROW: u32 = 0xC000_0002;
 
-const WORDS: [Entry<'static>; 7] = [
-    Entry { name: b"int", kind: Kind::Label(0), line: None },
-    Entry { name: b"bool", kind: Kind::Label(0), line: None },
-    Entry { name: b"arrow", kind: Kind::Label(2), line: None },
-    Entry {
-        name: b"true",
-        kind: Kind::Operator(0),
-        line: Some(Line {
-            arguments: &[End(1)],
-            result: &[Label(BOOL)],
-        }),
+const LANGUAGE: Language<'static> = Language {
+    literal: Line {
+        arguments: &[End(1)],
+        result: &[Label(INT)],
     },
-    Entry {
-        name: b"add",
-        kind: Kind::Operator(2),
-        line: Some(Line {
-            arguments: &[Arg(1), Label(INT), Arg(2), Label(INT), End(3)],
-            result: &[Label(INT)],
-        }),
+    function: Line {
+        arguments: &[Arg(1), Tau, Arg(2), Rho, End(3)],
+        result: &[Label(ARROW), Tau, Rho],
     },
-    Entry {
-        name: b"choose",
-        kind: Kind::Operator(3),
-        line: Some(Line {
-            arguments: &[Arg(1), Label(BOOL), Arg(2), Tau, Arg(3), Tau, End(4)],
-            result: &[Tau],
-        }),
-    },
-    Entry {
-        name: b"apply",
-        kind: Kind::Operator(2),
-        line: Some(Line {
-            arguments: &[Arg(1), Label(ARROW), Tau, Rho, Arg(2), Tau, End(3)],
-            result: &[Rho],
-        }),
-    },
-];
-
-// The line of an operation.
-fn line_of(operation: Operation) -> Option<Line<'static>>
-    ensures { option_map (λ l. row_items l) result ≡ option_map (λ l. itemized l) (ml_line operation) }
-{
-    match operation {
-        Operation::Literal => Some(Line {
-            arguments: &[End(1)],
-            result: &[Label(INT)],
-        }),
-        Operation::Function => {
-            Some(Line {
-                arguments: &[Arg(1), Tau, Arg(2), Rho, End(3)],
-                result: &[Label(ARROW), Tau, Rho],
-            })
-        }
-        Operation::Operator(number) => operator_line(&WORDS, number),
-    }
-}
+    words: &[
+        Entry {
+            name: b"int",
+            kind: Kind::Label(0),
+            line: None,
+        },
+        Entry {
+            name: b"bool",
+            kind: Kind::Label(0),
+            line: None,
+        },
+        Entry {
+            name: b"arrow",
+            kind: Kind::Label(2),
+            line: None,
+        },
+        Entry {
+            name: b"true",
+            kind: Kind::Operator(0),
+            line: Some(Line {
+                arguments: &[End(1)],
+                result: &[Label(BOOL)],
+            }),
+        },
+        Entry {
+            name: b"add",
+            kind: Kind::Operator(2),
+            line: Some(Line {
+                arguments: &[Arg(1), Label(INT), Arg(2), Label(INT), End(3)],
+                result: &[Label(INT)],
+            }),
+        },
+        Entry {
+            name: b"choose",
+            kind: Kind::Operator(3),
+            line: Some(Line {
+                arguments: &[Arg(1), Label(BOOL), Arg(2), Tau, Arg(3), Tau, End(4)],
+                result: &[Tau],
+            }),
+        },
+        Entry {
+            name: b"apply",
+            kind: Kind::Operator(2),
+            line: Some(Line {
+                arguments: &[Arg(1), Label(ARROW), Tau, Rho, Arg(2), Tau, End(3)],
+                result: &[Rho],
+            }),
+        },
+    ],
+};
 
 impl Core for MiniMl {
     type Cause = Position;
@@ -91,15 +91,15 @@ impl Core for MiniMl {
     ghost stable = { ml_stable };
 
     fn count(&self) -> u32 {
-        WORDS.len() as u32
+        LANGUAGE.words.len() as u32
     }
 
     fn find(&self, name: &[u8]) -> Option<Found> {
-        find_word(&WORDS, name)
+        find_word(LANGUAGE.words, name)
     }
 
     fn label_name(&self, label: u32) -> Option<&[u8]> {
-        label_word(&WORDS, label)
+        label_word(LANGUAGE.words, label)
     }
 
     fn answer(
@@ -108,6 +108,6 @@ impl Core for MiniMl {
         args: &[u32],
         out: &mut [u32],
     ) -> Result<usize, Refusal<Position>> {
-        answer_line(line_of(operation), 0, args, out)
+        answer_line(LANGUAGE.line(operation), 0, args, out)
     }
 }

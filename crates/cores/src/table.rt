@@ -3,9 +3,9 @@ ghost use Rattle.std.specs.Prelude.{◌≡◌, ◌^◌, ◌≤◌, map, length};
 ghost use Rattle.std.specs.Option.{option_map};
 ghost use Rattle.cores.specs.Meaning.{lookup, label_name};
 ghost use Rattle.cores.specs.Steps.{row_items};
-ghost use Rattle.cores.specs.Tables.{tabled, row, row_at};
+ghost use Rattle.cores.specs.Tables.{tabled, row, row_at, rows, operation_row};
 
-use crate::interface::{Found, Kind};
+use crate::interface::{Found, Kind, Operation};
 use crate::lines::Line;
 
 // A word with its name, and with its line if it is an operator.
@@ -44,4 +44,25 @@ pub(crate) fn operator_line<'a>(table: &[Entry<'a>], number: u32) -> Option<Line
     ensures { option_map (λ l. row_items l) result ≡ row_at (map row table.now) number }
 {
     table.get(number as usize)?.line
+}
+
+// A language: the lines of the integer literal and of the function, and its words.
+#[derive(Clone, Copy, PartialEq, Eq, Debug)]
+pub struct Language<'a> {
+    pub literal: Line<'a>,
+    pub function: Line<'a>,
+    pub words: &'a [Entry<'a>],
+}
+
+impl<'a> Language<'a> {
+    // The line of an operation. Constant time.
+    pub(crate) fn line(&self, operation: Operation) -> Option<Line<'a>>
+        ensures { option_map (λ l. row_items l) result ≡ operation_row (rows self.now) operation }
+    {
+        match operation {
+            Operation::Literal => Some(self.literal),
+            Operation::Function => Some(self.function),
+            Operation::Operator(number) => operator_line(self.words, number),
+        }
+    }
 }
