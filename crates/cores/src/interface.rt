@@ -3,7 +3,7 @@ ghost use Rattle.std.specs.Prelude.{◌≡◌, ℕ, ◌^◌, ◌≤◌, List, le
 ghost use Rattle.std.specs.Option.{option_map};
 ghost use Rattle.types.specs.Types.{Ty};
 ghost use Rattle.cores.specs.Meaning.{Word, Outcome, ProperWords, Stable, lookup, label_name};
-ghost use Rattle.cores.specs.Answers.{reply, leaves, question_number};
+ghost use Rattle.cores.specs.Answers.{reply, leaves, question_number, ForCause, CauseChanged};
 ghost use Rattle.cores.specs.declared.interface.Operation.{Operation};
 
 // What a word is: a label with so many parts, or an operator with so many arguments.
@@ -37,6 +37,21 @@ pub enum Refusal<K> {
     Size,
     Arguments,
     Short,
+}
+
+impl<K> Refusal<K> {
+    // The same refusal, its cause changed by `f`. Constant time but for `f`.
+    pub fn map_cause<L, F: FnOnce(K) -> L>(self, f: F) -> Refusal<L>
+        requires { ForCause self (F.pre f) }
+        ensures { CauseChanged (F.post f) self result }
+    {
+        match self {
+            Refusal::Cause(cause) => Refusal::Cause(f(cause)),
+            Refusal::Size => Refusal::Size,
+            Refusal::Arguments => Refusal::Arguments,
+            Refusal::Short => Refusal::Short,
+        }
+    }
 }
 
 // The number of the question to which a refusal says no, if it belongs to one. Constant time.

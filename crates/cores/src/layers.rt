@@ -45,12 +45,7 @@ impl<K: Copy> From<Refusal<K>> for Refusal<LayerCause<K>> {
     ghost from_gives = { λ k r. r ≡ above k };
 
     fn from(refusal: Refusal<K>) -> Refusal<LayerCause<K>> {
-        match refusal {
-            Refusal::Cause(cause) => Refusal::Cause(LayerCause::from(cause)),
-            Refusal::Size => Refusal::Size,
-            Refusal::Arguments => Refusal::Arguments,
-            Refusal::Short => Refusal::Short,
-        }
+        refusal.map_cause(LayerCause::from)
     }
 }
 
@@ -58,12 +53,7 @@ impl<K: Copy> From<Refusal<K>> for Refusal<LayerCause<K>> {
 fn own_refusal<K>(refusal: Refusal<Position>) -> Refusal<LayerCause<K>>
     ensures { result ≡ own_cause refusal }
 {
-    match refusal {
-        Refusal::Cause(position) => Refusal::Cause(LayerCause::Own(position.number)),
-        Refusal::Size => Refusal::Size,
-        Refusal::Arguments => Refusal::Arguments,
-        Refusal::Short => Refusal::Short,
-    }
+    refusal.map_cause(|position| LayerCause::Own(position.number))
 }
 
 // What a layer adds: its own words, numbered from 0, and the lines of its operators.

@@ -133,17 +133,10 @@ fn writes_ptr(operation: Operation, position: u32) -> bool
 fn marked(operation: Operation, refusal: Refusal<Position>) -> Refusal<CCause>
     ensures { result ≡ c_refusal operation refusal }
 {
-    match refusal {
-        Refusal::Cause(Position { number }) => {
-            Refusal::Cause(CCause {
-                position: number,
-                pointer: writes_ptr(operation, number),
-            })
-        }
-        Refusal::Size => Refusal::Size,
-        Refusal::Arguments => Refusal::Arguments,
-        Refusal::Short => Refusal::Short,
-    }
+    refusal.map_cause(|Position { number }| CCause {
+        position: number,
+        pointer: writes_ptr(operation, number),
+    })
 }
 
 impl Core for MiniC {
