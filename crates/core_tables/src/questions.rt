@@ -6,59 +6,42 @@ use cores::interface::{Core, Found, Kind, Operation, Refusal};
 use std::alloc::{AllocError, Global};
 use std::fmt::Display;
 use std::str::from_utf8;
-use tokens::token::same_bytes;
-use types::words::{Node, node_of, word_of};
+use types::words::Node;
 
 // The operation of this name.
 pub fn operation_named<C: Core>(core: &C, name: &[u8]) -> Option<Operation>
     ensures { result ≡ operation_named C.Core.words name.now }
 {
-    if same_bytes(name, b"literal") {
-        Some(Operation::Literal)
-    } else if same_bytes(name, b"function") {
-        Some(Operation::Function)
-    } else {
-        match core.find(name) {
-            Some(
-                Found {
-                    number,
-                    kind: Kind::Operator(_),
-                },
-            ) => Some(Operation::Operator(number)),
-            _ => None,
+    match name {
+        b"literal" => Some(Operation::Literal),
+        b"function" => Some(Operation::Function),
+        _ => {
+            let Found { number, kind } = core.find(name)?;
+            match kind {
+                Kind::Operator(_) => Some(Operation::Operator(number)),
+                Kind::Label(_) => None,
+            }
         }
+    }
+}
+
+// The label of a type, if the word found is one with at most 2 parts.
+fn label_node(found: Found) -> Option<Node> {
+    match found.kind {
+        Kind::Label(0) => Some(Node::Label0(found.number)),
+        Kind::Label(1) => Some(Node::Label1(found.number)),
+        Kind::Label(2) => Some(Node::Label2(found.number)),
+        _ => None,
     }
 }
 
 // The word of a label by its name, or of a leaf by its number behind `#`.
 fn type_word<C: Core>(core: &C, name: &str) -> Option<u32> {
-    if let Some(digits) = name.strip_prefix("#") {
-        return match digits.parse::<u32>() {
-            Ok(number) => word_of(Node::Leaf(number)),
-            Err(_) => None,
-        };
-    }
-    match core.find(name.as_bytes()) {
-        Some(
-            Found {
-                number,
-                kind: Kind::Label(0),
-            },
-        ) => word_of(Node::Label0(number)),
-        Some(
-            Found {
-                number,
-                kind: Kind::Label(1),
-            },
-        ) => word_of(Node::Label1(number)),
-        Some(
-            Found {
-                number,
-                kind: Kind::Label(2),
-            },
-        ) => word_of(Node::Label2(number)),
-        _ => None,
-    }
+    let node = match name.strip_prefix("#") {
+        Some(digits) => Node::Leaf(digits.parse().ok()?),
+        None => label_node(core.find(name.as_bytes())?)?,
+    };
+    u32::try_from(node).ok()
 }
 
 // A word's name with its kind and number, if the core has it.
@@ -67,28 +50,21 @@ pub fn word_text<C: Core>(
     core: &C,
     name: &str,
 ) -> Result<Option<String>, AllocError> {
-    match core.find(name.as_bytes()) {
-        Some(
-            Found {
-                number,
-                kind: Kind::Label(parts),
-            },
-        ) => Ok(Some(format!(in heap; "{number} {name}: label, {parts} parts")?)),
-        Some(
-            Found {
-                number,
-                kind: Kind::Operator(arguments),
-            },
-        ) => { Ok(Some(format!(in heap; "{number} {name}: operator, {arguments} arguments")?)) }
-        None => Ok(None),
-    }
+    let Some(Found { number, kind }) = core.find(name.as_bytes()) else {
+        return Ok(None);
+    };
+    let text = match kind {
+        Kind::Label(parts) => format!(in heap; "{number} {name}: label, {parts} parts")?,
+        Kind::Operator(arguments) => format!(in heap; "{number} {name}: operator, {arguments} arguments")?,
+    };
+    Ok(Some(text))
 }
 
 // The words of a type, each label by its name.
 fn push_type<C: Core>(core: &C, words: &[u32], text: &mut String) -> anyhow::Result<()> {
     for word in words {
         text.push_str(" ")?;
-        match node_of(*word) {
+        match Node::from(*word) {
             Node::Leaf(number) => write!(text, "#{number}")?,
             Node::Label0(label) | Node::Label1(label) | Node::Label2(label) =>
                 match core.label_name(label) {
@@ -123,7 +99,7 @@ where
     match core.answer(operation, &args, &mut out) {
         Ok(n) => {
             text.push_str(" ->")?;
-            push_type(core, &out[0..n], &mut text)?;
+            push_type(core, &out[..n], &mut text)?;
         }
         Err(Refusal::Cause(cause)) => write!(text, " -> no {cause}")?,
         Err(Refusal::Size) => text.push_str(" -> size")?,

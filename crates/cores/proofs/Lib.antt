@@ -2,3 +2,4 @@ mod Values
 mod Comparing
 mod Replies
 mod Lawful
+mod Tables

@@ -1,7 +1,8 @@
 -- The answer of a line, once the arguments are compared with it.
-use Rattle.std.proofs.Common.{◌≡◌, ℕ, ◌<◌, ◌≤◌, Bool, true, false, cond, leb, List, ◌++◌, length, drop, Some, Ok, Err, Option, sym, ap, ◌∙◌, arith}
+use Rattle.std.proofs.Common.{◌≡◌, ℕ, ◌+◌, ◌<◌, ◌≤◌, Bool, true, false, cond, leb, List, ◌++◌, length, drop, Some, Ok, Err, Option, sym, refl, ap, ◌∙◌, subst, arith}
 use Rattle.std.proofs.lemmas.Bool.Decides.{nat_tests}
-use Rattle.types.specs.Words.{whole}
+use Rattle.std.specs.Option.{ok_or}
+use Rattle.types.specs.Words.{whole, copied, copied_end}
 use Rattle.cores.specs.Steps.{Items, Reached, start, run, proceed, result_words, worked, line_verdict, line_put, line_reply, line_leaves}
 use Rattle.cores.specs.declared.interface.Refusal.TheVariants.{Size, Arguments, Short}
 
@@ -26,20 +27,20 @@ module _ (b : ℕ) (o : Option Items) (args : List ℕ) (ws : List ℕ) (w : who
       let l = leaves_is out in
       ((cc), (cc))
 
-  pub short : (out : List ℕ) → length ws ≤ 32 → length out < length ws →
-      (Err Short ≡ line_reply b o args (length out)) × (out ≡ line_leaves b o args out)
-  short out h i =
+  -- what is kept within 32 words is copied, where there is room for it
+  pub written : (out kept : List ℕ) → kept ≡ ws → length kept ≤ 32 →
+      (ok_or (copied_end kept 0 (length out)) Short ≡ line_reply b o args (length out)) × (copied kept 0 out ≡ line_leaves b o args out)
+  written out kept k h =
+      let j = ap (λ (xs : List ℕ). length xs) k in
+      let i : length ws ≤ 32 = omega arith in
       let t : leb (length ws) 32 ≡ true = grind (arith, nat_tests) in
-      let u : leb (length ws) (length out) ≡ false = grind (arith, nat_tests) in
       let r = reply_is (length out) in
       let l = leaves_is out in
-      ((cc), (cc))
-
-  pub fits : (out : List ℕ) → length ws ≤ 32 → length ws ≤ length out →
-      (Ok (length ws) ≡ line_reply b o args (length out)) × (ws ++ drop (length ws) out ≡ line_leaves b o args out)
-  fits out h i =
-      let t : leb (length ws) 32 ≡ true = grind (arith, nat_tests) in
-      let u : leb (length ws) (length out) ≡ true = grind (arith, nat_tests) in
-      let r = reply_is (length out) in
-      let l = leaves_is out in
-      ((cc), (cc))
+      let z : 0 + length ws ≡ length ws = omega arith in
+      subst (λ (xs : List ℕ). (ok_or (copied_end xs 0 (length out)) Short ≡ line_reply b o args (length out)) × (copied xs 0 out ≡ line_leaves b o args out)) (sym k) (go z (leb (length ws) (length out)) refl t r l)
+    where
+      go : (0 + length ws ≡ length ws) → (c : Bool) → leb (length ws) (length out) ≡ c → leb (length ws) 32 ≡ true →
+          line_reply b o args (length out) ≡ line_verdict (Ok ws) (length out) → line_leaves b o args out ≡ line_put (Ok ws) out →
+          (ok_or (copied_end ws 0 (length out)) Short ≡ line_reply b o args (length out)) × (copied ws 0 out ≡ line_leaves b o args out)
+      go z true u t r l = ((cc), (cc))
+      go z false u t r l = ((cc), (cc))

@@ -1,5 +1,5 @@
 -- What a core answers in words: what its rule says of the types that the words spell.
-use Rattle.std.specs.Prelude.{ℕ, cond, ◌&&◌, List, length, drop, Some, None, Ok, Err, Option, Result, nat_le}
+use Rattle.std.specs.Prelude.{◌≡◌, ℕ, cond, ◌&&◌, List, length, drop, Some, None, Ok, Err, Option, Result, nat_le}
 use Rattle.types.specs.Types.{Ty, size}
 use Rattle.types.specs.Words.{types, spell, whole}
 use Rattle.cores.specs.Meaning.{Outcome, gives, refuses}
@@ -31,3 +31,14 @@ question_number (Cause c) = Some 13
 question_number Size = Some 16
 question_number Arguments = None
 question_number Short = None
+
+-- what is asked of a cause, if the refusal has one
+abbrev pub ForCause : {K : Type 0} → Refusal K → (K → Type 0) → Type 0
+ForCause {K} r P = (c : K) → r ≡ Cause c → P c
+
+-- the same refusal, its cause changed as P says
+abbrev pub CauseChanged : {K L : Type 0} → (K → L → Type 0) → Refusal K → Refusal L → Type 0
+CauseChanged {K} {L} P (Cause c) r = (l : L) × (r ≡ Cause l) × P c l
+CauseChanged P Size r = r ≡ Size
+CauseChanged P Arguments r = r ≡ Arguments
+CauseChanged P Short r = r ≡ Short

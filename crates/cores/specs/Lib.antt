@@ -14,3 +14,4 @@ pub mod Fits
 pub mod Refusals
 pub mod Judging
 pub mod Shipped
+pub mod Tables

@@ -117,10 +117,6 @@ item_words b s Rho = words_of s.rho
 abbrev pub result_words : ℕ → Reached → List Item → List ℕ
 result_words b s is = flat_map (item_words b s) is
 
--- how long a result is, unless it is over 32
-abbrev pub within32 : ℕ → Option ℕ
-within32 n = cond (nat_le n 32) (Some n) None
-
 -- the words that a line gives for whole arguments, or the position of the first wrong one
 abbrev pub worked : ℕ → Option Items → List ℕ → Result (List ℕ) ℕ
 worked b None args = Err 1

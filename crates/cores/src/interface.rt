@@ -3,49 +3,29 @@ ghost use Rattle.std.specs.Prelude.{◌≡◌, ℕ, ◌^◌, ◌≤◌, List, le
 ghost use Rattle.std.specs.Option.{option_map};
 ghost use Rattle.types.specs.Types.{Ty};
 ghost use Rattle.cores.specs.Meaning.{Word, Outcome, ProperWords, Stable, lookup, label_name};
-ghost use Rattle.cores.specs.Answers.{reply, leaves, question_number};
+ghost use Rattle.cores.specs.Answers.{reply, leaves, question_number, ForCause, CauseChanged};
 ghost use Rattle.cores.specs.declared.interface.Operation.{Operation};
 
 // What a word is: a label with so many parts, or an operator with so many arguments.
-#[derive(Clone, Copy)]
+#[derive(Clone, Copy, PartialEq, Eq, Debug)]
 pub enum Kind {
     Label(u8),
     Operator(u8),
 }
 
 // A word that a name was found to be: its number among the words, and its kind.
-#[derive(Clone, Copy)]
+#[derive(Clone, Copy, PartialEq, Eq, Debug)]
 pub struct Found {
     pub number: u32,
     pub kind: Kind,
 }
 
 // What a rule is asked about: the integer literal, the function, or an operator by its number among the words.
-#[derive(Clone, Copy)]
+#[derive(Clone, Copy, PartialEq, Eq, Debug)]
 pub enum Operation {
     Literal,
     Function,
     Operator(u32),
-}
-
-// A label of this number with so many parts. Constant time.
-pub(crate) fn label(number: u32, parts: u8) -> Option<Found>
-    ensures { result ≡ Some (record { number = number; kind = Kind.Label parts }) }
-{
-    Some(Found {
-        number,
-        kind: Kind::Label(parts),
-    })
-}
-
-// An operator of this number with so many arguments. Constant time.
-pub(crate) fn operator(number: u32, arguments: u8) -> Option<Found>
-    ensures { result ≡ Some (record { number = number; kind = Kind.Operator arguments }) }
-{
-    Some(Found {
-        number,
-        kind: Kind::Operator(arguments),
-    })
 }
 
 // Why there is no type: the core's cause, a type of over 32 labels and leaves, arguments that are no whole types,
@@ -57,6 +37,21 @@ pub enum Refusal<K> {
     Size,
     Arguments,
     Short,
+}
+
+impl<K> Refusal<K> {
+    // The same refusal, its cause changed by `f`. Constant time but for `f`.
+    pub fn map_cause<L, F: FnOnce(K) -> L>(self, f: F) -> Refusal<L>
+        requires { ForCause self (F.pre f) }
+        ensures { CauseChanged (F.post f) self result }
+    {
+        match self {
+            Refusal::Cause(cause) => Refusal::Cause(f(cause)),
+            Refusal::Size => Refusal::Size,
+            Refusal::Arguments => Refusal::Arguments,
+            Refusal::Short => Refusal::Short,
+        }
+    }
 }
 
 // The number of the question to which a refusal says no, if it belongs to one. Constant time.

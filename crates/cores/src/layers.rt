@@ -13,7 +13,7 @@ use crate::lines::{Line, Position, answer_line};
 use std::fmt;
 
 // A layer's cause: the position of the first wrong argument of an operator of its own, or the whole cause from below.
-#[derive(Clone, Copy)]
+#[derive(Clone, Copy, PartialEq, Eq, Debug)]
 pub enum LayerCause<K> {
     Own(u32),
     Below(K),
@@ -45,12 +45,7 @@ impl<K: Copy> From<Refusal<K>> for Refusal<LayerCause<K>> {
     ghost from_gives = { λ k r. r ≡ above k };
 
     fn from(refusal: Refusal<K>) -> Refusal<LayerCause<K>> {
-        match refusal {
-            Refusal::Cause(cause) => Refusal::Cause(LayerCause::from(cause)),
-            Refusal::Size => Refusal::Size,
-            Refusal::Arguments => Refusal::Arguments,
-            Refusal::Short => Refusal::Short,
-        }
+        refusal.map_cause(LayerCause::from)
     }
 }
 
@@ -58,12 +53,7 @@ impl<K: Copy> From<Refusal<K>> for Refusal<LayerCause<K>> {
 fn own_refusal<K>(refusal: Refusal<Position>) -> Refusal<LayerCause<K>>
     ensures { result ≡ own_cause refusal }
 {
-    match refusal {
-        Refusal::Cause(position) => Refusal::Cause(LayerCause::Own(position.number)),
-        Refusal::Size => Refusal::Size,
-        Refusal::Arguments => Refusal::Arguments,
-        Refusal::Short => Refusal::Short,
-    }
+    refusal.map_cause(|position| LayerCause::Own(position.number))
 }
 
 // What a layer adds: its own words, numbered from 0, and the lines of its operators.
@@ -96,7 +86,7 @@ pub trait Layer {
 }
 
 // A layer over a core. Where label numbers would pass 30 bits the layer adds nothing.
-#[derive(Clone, Copy)]
+#[derive(Clone, Copy, PartialEq, Eq, Debug)]
 pub struct Layered<L, C> {
     pub layer: L,
     pub below: C,

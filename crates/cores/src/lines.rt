@@ -1,13 +1,13 @@
 // Rules by their lines: a line is compared with the words of arguments, and what it gives is written.
-ghost use Rattle.std.specs.Prelude.{◌≡◌, ℕ, ◌+◌, ◌≤◌, ◌++◌, length, drop, Some, decimal};
+ghost use Rattle.std.specs.Prelude.{◌≡◌, ◌+◌, ◌<◌, ◌++◌, length, Some, OnOk, OnErr, IfOk, decimal};
 ghost use Rattle.std.specs.Option.{option_map};
-ghost use Rattle.types.specs.Words.{pasted};
-ghost use Rattle.cores.specs.Steps.{row_items, placed, reached, start, compared, settle_words, bound, behind, step, run, words_of, item_words, result_words, within32, line_reply, line_leaves};
+ghost use Rattle.cores.specs.Steps.{row_items, placed, reached, start, compared, bound, behind, step, run, item_words, result_words, line_reply, line_leaves};
 ghost use Rattle.cores.specs.declared.interface.Refusal.TheVariants.{Cause};
 
 use crate::interface::Refusal;
+use arrayvec::{ArrayVec, CapacityError};
 use std::fmt;
-use types::words::{after, are_types, copy_run, front, same_run, type_end};
+use types::words::{are_types, copy_run, split_type};
 
 // The position of an argument, from 1.
 #[derive(Clone, Copy, PartialEq, Eq, Debug)]
@@ -35,7 +35,7 @@ impl<K> From<K> for Refusal<K> {
 }
 
 // An item of a line. Patterns are spelled like types: an own label by its word, counted from the first own word, before its parts.
-#[derive(Clone, Copy)]
+#[derive(Clone, Copy, PartialEq, Eq, Debug)]
 pub enum Item {
     // the argument of this position begins
     Arg(u32),
@@ -48,15 +48,20 @@ pub enum Item {
 }
 
 // A line of a rule: what the arguments have to be, and what is given.
-#[derive(Clone, Copy)]
+#[derive(Clone, Copy, PartialEq, Eq, Debug)]
 pub struct Line<'a> {
     pub arguments: &'a [Item],
     pub result: &'a [Item],
 }
 
-// How far arguments were compared with a line: the words left, what the variables stand for, and the position reached.
-#[derive(Clone, Copy)]
+// The most words that a result may have.
+const LIMIT: usize = 32;
+
+// How far arguments were compared with a line of a layer with `base` words below: the words left,
+// what the variables stand for, and the position reached.
+#[derive(Clone, Copy, PartialEq, Eq, Debug)]
 struct Progress<'a> {
+    base: u32,
     rest: &'a [u32],
     tau: Option<&'a [u32]>,
     rho: Option<&'a [u32]>,
@@ -70,168 +75,100 @@ fn placed_word(base: u32, word: u32) -> u32
     base.wrapping_add(word)
 }
 
-// What a variable stands for once it has met these words: them, or the same that it stood for.
-fn settled<'a>(known: Option<&'a [u32]>, met: &'a [u32]) -> Option<&'a [u32]>
-    ensures { option_map (λ x. x.now) result ≡ settle_words (option_map (λ x. x.now) known.entry) met.now }
-{
-    match known {
-        None => Some(met),
-        Some(words) if same_run(words, met) => Some(words),
-        Some(_) => None,
-    }
-}
-
-// The words of a variable once it has met the next type, and the words behind that type.
+// What a variable stands for once it has met the next type, and the words behind that type: the type's words,
+// unless the variable stood for others.
 fn bind<'a>(known: Option<&'a [u32]>, rest: &'a [u32]) -> Option<(&'a [u32], &'a [u32])>
     ensures { option_map (λ x. (x.0.now, x.1.now)) result ≡ bound (option_map (λ x. x.now) known.entry) rest.now }
 {
-    let end = type_end(rest)?;
-    let words = settled(known, front(rest, end))?;
-    Some((words, after(rest, end)))
-}
-
-// The words behind the label wanted, if that is the first word.
-fn behind_label<'a>(word: u32, rest: &'a [u32]) -> Option<&'a [u32]>
-    ensures { option_map (λ x. x.now) result ≡ behind word rest.now }
-{
-    if !rest.is_empty() && rest[0] == word {
-        Some(after(rest, 1))
-    } else {
-        None
+    let (met, behind) = split_type(rest)?;
+    match known {
+        Some(words) if words != met => None,
+        _ => Some((met, behind)),
     }
 }
 
-// One item of a line.
-fn advance<'a>(item: Item, base: u32, at: Progress<'a>) -> Result<Progress<'a>, Position>
-    ensures { compared result ≡ step base item (reached at.entry) }
-{
-    let here = Position {
-        number: at.position,
-    };
-    match item {
-        Item::Arg(number) => {
-            if at.rest.is_empty() {
-                Err(Position { number })
-            } else {
+impl<'a> Progress<'a> {
+    // One item of a line.
+    fn advance(self, item: Item) -> Result<Progress<'a>, Position>
+        ensures compares { compared result ≡ step self.entry.base item (reached self.entry) }
+        ensures base { IfOk result (λ p. p.base ≡ self.entry.base) }
+    {
+        let here = Position {
+            number: self.position,
+        };
+        match item {
+            Item::Arg(number) if self.rest.is_empty() => Err(Position { number }),
+            Item::Arg(position) => Ok(Progress { position, ..self }),
+            Item::End(_) if self.rest.is_empty() => Ok(self),
+            Item::End(number) => Err(Position { number }),
+            Item::Label(word) => {
+                let rest = self
+                    .rest
+                    .strip_prefix(&[placed_word(self.base, word)])
+                    .ok_or(here)?;
+                Ok(Progress { rest, ..self })
+            }
+            Item::Tau => {
+                let (words, rest) = bind(self.tau, self.rest).ok_or(here)?;
                 Ok(Progress {
-                    position: number,
-                    ..at
+                    rest,
+                    tau: Some(words),
+                    ..self
+                })
+            }
+            Item::Rho => {
+                let (words, rest) = bind(self.rho, self.rest).ok_or(here)?;
+                Ok(Progress {
+                    rest,
+                    rho: Some(words),
+                    ..self
                 })
             }
         }
-        Item::End(number) => if at.rest.is_empty() {
-            Ok(at)
-        } else {
-            Err(Position { number })
-        },
-        Item::Label(word) => {
-            let rest = behind_label(placed_word(base, word), at.rest).ok_or(here)?;
-            Ok(Progress { rest, ..at })
+    }
+
+    // Puts the words of an item of a result behind others, unless they are then over 32; a variable that met nothing is 0.
+    fn push_words(self, item: Item, words: &mut ArrayVec<u32, LIMIT>) -> Result<(), CapacityError>
+        ensures over { OnErr result (32 < length words.old.items + length (item_words self.entry.base (reached self.entry) item)) }
+        ensures ok { OnOk result (words.new.items ≡ words.old.items ++ item_words self.entry.base (reached self.entry) item) }
+    {
+        match item {
+            Item::Arg(_) | Item::End(_) => Ok(()),
+            Item::Label(word) => words.try_extend_from_slice(&[placed_word(self.base, word)]),
+            Item::Tau => words.try_extend_from_slice(self.tau.unwrap_or(&[0])),
+            Item::Rho => words.try_extend_from_slice(self.rho.unwrap_or(&[0])),
         }
-        Item::Tau => {
-            let (words, rest) = bind(at.tau, at.rest).ok_or(here)?;
-            Ok(Progress {
-                rest,
-                tau: Some(words),
-                ..at
-            })
+    }
+
+    // The words of a result, unless they are over 32.
+    fn result_words(self, items: &[Item]) -> Result<ArrayVec<u32, LIMIT>, CapacityError>
+        ensures over { OnErr result (32 < length (result_words self.entry.base (reached self.entry) items.now)) }
+        ensures ok { IfOk result (λ v. v.items ≡ result_words self.entry.base (reached self.entry) items.now) }
+    {
+        let mut words = ArrayVec::new();
+        for item in items {
+            self.push_words(*item, &mut words)?;
         }
-        Item::Rho => {
-            let (words, rest) = bind(at.rho, at.rest).ok_or(here)?;
-            Ok(Progress {
-                rest,
-                rho: Some(words),
-                ..at
-            })
-        }
+        Ok(words)
     }
 }
 
 // The arguments compared with the items of a line: what the variables stand for, or the position of the first wrong argument.
 fn compare<'a>(items: &[Item], base: u32, args: &'a [u32]) -> Result<Progress<'a>, Position>
-    ensures { compared result ≡ run base items.now (start args.now) }
+    ensures compares { compared result ≡ run base items.now (start args.now) }
+    ensures base { IfOk result (λ p. p.base ≡ base) }
 {
     let mut at = Progress {
+        base,
         rest: args,
         tau: None,
         rho: None,
         position: 1,
     };
     for item in items {
-        at = advance(*item, base, at)?;
+        at = at.advance(*item)?;
     }
     Ok(at)
-}
-
-// The words of a variable; one that met nothing is 0.
-fn words_of<'a>(known: Option<&'a [u32]>) -> &'a [u32]
-    ensures { result.now ≡ words_of (option_map (λ x. x.now) known.entry) }
-{
-    match known {
-        Some(words) => words,
-        None => &[0],
-    }
-}
-
-// How many words an item of a result stands for.
-fn item_length(item: Item, at: Progress) -> usize
-    ensures { (b : ℕ) → result ≡ length (item_words b (reached at.entry) item) }
-{
-    match item {
-        Item::Arg(_) | Item::End(_) => 0,
-        Item::Label(_) => 1,
-        Item::Tau => words_of(at.tau).len(),
-        Item::Rho => words_of(at.rho).len(),
-    }
-}
-
-// The sum of two lengths, unless it is over 32.
-fn within_limit(total: usize, more: usize) -> Option<usize>
-    requires { total ≤ 32 }
-    ensures { result ≡ within32 (total + more) }
-{
-    if more > 32 - total {
-        None
-    } else {
-        Some(total + more)
-    }
-}
-
-// How many words a result has, unless they are over 32.
-fn result_length(items: &[Item], at: Progress) -> Option<usize>
-    ensures { (b : ℕ) → result ≡ within32 (length (result_words b (reached at.entry) items.now)) }
-{
-    let mut total: usize = 0;
-    for item in items {
-        total = within_limit(total, item_length(*item, at))?;
-    }
-    Some(total)
-}
-
-// Writes the words of an item from place `n` on, and tells the place behind them.
-fn put_item(item: Item, base: u32, at: Progress, out: &mut [u32], n: usize) -> usize
-    requires { n + length (item_words base (reached at) item) ≤ length out.old }
-    ensures end { result ≡ n + length (item_words base (reached at.entry) item) }
-    ensures after { out.new ≡ pasted (item_words base (reached at.entry) item) n out.old }
-{
-    let end = match item {
-        Item::Arg(_) | Item::End(_) => copy_run(&[], out, n),
-        Item::Label(word) => copy_run(&[placed_word(base, word)], out, n),
-        Item::Tau => copy_run(words_of(at.tau), out, n),
-        Item::Rho => copy_run(words_of(at.rho), out, n),
-    };
-    end.unwrap_or(n)
-}
-
-// Writes the words of a result to the front of `out`.
-fn write_result(items: &[Item], base: u32, at: Progress, out: &mut [u32])
-    requires { length (result_words base (reached at) items.now) ≤ length out.old }
-    ensures { out.new ≡ result_words base (reached at.entry) items.now ++ drop (length (result_words base (reached at.entry) items.now)) out.old }
-{
-    let mut n = 0;
-    for item in items {
-        n = put_item(*item, base, at, out, n);
-    }
 }
 
 // What a line of a layer with `base` words below gives for argument types, written to the front of `out`, with its length.
@@ -250,12 +187,8 @@ pub fn answer_line(
     }
     let line = line.ok_or(Position { number: 1 })?;
     let at = compare(line.arguments, base, args)?;
-    let Some(n) = result_length(line.result, at) else {
+    let Ok(words) = at.result_words(line.result) else {
         return Err(Refusal::Size);
     };
-    if n > out.len() {
-        return Err(Refusal::Short);
-    }
-    write_result(line.result, base, at, out);
-    Ok(n)
+    copy_run(&words, out, 0).ok_or(Refusal::Short)
 }

@@ -7,17 +7,17 @@ ghost use Rattle.cores.specs.declared.interface.Operation.TheVariants.{Operator}
 ghost use Rattle.cores.specs.Shipped.{c_stable};
 ghost use Rattle.std.proofs.Common.{rules};
 
-use crate::interface::{Core, Found, Operation, Refusal, label, operator};
+use crate::interface::{Core, Found, Kind, Operation, Refusal};
 use crate::lines::Item::{Arg, End, Label, Rho, Tau};
 use crate::lines::{Line, Position, answer_line};
+use crate::table::{Entry, Language, find_word, label_word};
 use std::fmt;
-use tokens::token::same_bytes;
 
-#[derive(Clone, Copy)]
+#[derive(Clone, Copy, PartialEq, Eq, Debug, Default)]
 pub struct MiniC;
 
 // The position of the first wrong argument, and whether the operator's line writes `ptr` there.
-#[derive(Clone, Copy)]
+#[derive(Clone, Copy, PartialEq, Eq, Debug)]
 pub struct CCause {
     pub position: u32,
     pub pointer: bool,
@@ -46,56 +46,78 @@ const DEREF: u32 = 6;
 
 const STORE: u32 = 7;
 
-// The line of the operator of this number.
-fn operator_line(number: u32) -> Option<Line<'static>>
-    ensures { option_map (λ l. row_items l) result ≡ option_map (λ l. itemized l) (c_line (Operator number)) }
-{
-    match number {
-        // plus
-        4 => Some(Line {
-            arguments: &[Arg(1), Label(INT), Arg(2), Label(INT), End(3)],
-            result: &[Label(INT)],
-        }),
-        // addr
-        5 => Some(Line {
-            arguments: &[Arg(1), Tau, End(2)],
-            result: &[Label(PTR), Tau],
-        }),
-        DEREF => Some(Line {
-            arguments: &[Arg(1), Label(PTR), Tau, End(2)],
-            result: &[Tau],
-        }),
-        STORE => Some(Line {
-            arguments: &[Arg(1), Label(PTR), Tau, Arg(2), Tau, End(3)],
-            result: &[Label(VOID)],
-        }),
-        // call
-        8 => Some(Line {
-            arguments: &[Arg(1), Label(FUNC), Tau, Rho, Arg(2), Tau, End(3)],
-            result: &[Rho],
-        }),
-        _ => None,
-    }
-}
-
-// The line of an operation.
-fn line_of(operation: Operation) -> Option<Line<'static>>
-    ensures { option_map (λ l. row_items l) result ≡ option_map (λ l. itemized l) (c_line operation) }
-{
-    match operation {
-        Operation::Literal => Some(Line {
-            arguments: &[End(1)],
-            result: &[Label(INT)],
-        }),
-        Operation::Function => {
-            Some(Line {
-                arguments: &[Arg(1), Tau, Arg(2), Rho, End(3)],
-                result: &[Label(FUNC), Tau, Rho],
-            })
-        }
-        Operation::Operator(number) => operator_line(number),
-    }
-}
+const LANGUAGE: Language<'static> = Language {
+    literal: Line {
+        arguments: &[End(1)],
+        result: &[Label(INT)],
+    },
+    function: Line {
+        arguments: &[Arg(1), Tau, Arg(2), Rho, End(3)],
+        result: &[Label(FUNC), Tau, Rho],
+    },
+    words: &[
+        Entry {
+            name: b"int",
+            kind: Kind::Label(0),
+            line: None,
+        },
+        Entry {
+            name: b"void",
+            kind: Kind::Label(0),
+            line: None,
+        },
+        Entry {
+            name: b"ptr",
+            kind: Kind::Label(1),
+            line: None,
+        },
+        Entry {
+            name: b"func",
+            kind: Kind::Label(2),
+            line: None,
+        },
+        Entry {
+            name: b"plus",
+            kind: Kind::Operator(2),
+            line: Some(Line {
+                arguments: &[Arg(1), Label(INT), Arg(2), Label(INT), End(3)],
+                result: &[Label(INT)],
+            }),
+        },
+        Entry {
+            name: b"addr",
+            kind: Kind::Operator(1),
+            line: Some(Line {
+                arguments: &[Arg(1), Tau, End(2)],
+                result: &[Label(PTR), Tau],
+            }),
+        },
+        Entry {
+            name: b"deref",
+            kind: Kind::Operator(1),
+            line: Some(Line {
+                arguments: &[Arg(1), Label(PTR), Tau, End(2)],
+                result: &[Tau],
+            }),
+        },
+        Entry {
+            name: b"store",
+            kind: Kind::Operator(2),
+            line: Some(Line {
+                arguments: &[Arg(1), Label(PTR), Tau, Arg(2), Tau, End(3)],
+                result: &[Label(VOID)],
+            }),
+        },
+        Entry {
+            name: b"call",
+            kind: Kind::Operator(2),
+            line: Some(Line {
+                arguments: &[Arg(1), Label(FUNC), Tau, Rho, Arg(2), Tau, End(3)],
+                result: &[Rho],
+            }),
+        },
+    ],
+};
 
 // Whether the operation's line writes `ptr` at this argument.
 fn writes_ptr(operation: Operation, position: u32) -> bool
@@ -111,17 +133,10 @@ fn writes_ptr(operation: Operation, position: u32) -> bool
 fn marked(operation: Operation, refusal: Refusal<Position>) -> Refusal<CCause>
     ensures { result ≡ c_refusal operation refusal }
 {
-    match refusal {
-        Refusal::Cause(Position { number }) => {
-            Refusal::Cause(CCause {
-                position: number,
-                pointer: writes_ptr(operation, number),
-            })
-        }
-        Refusal::Size => Refusal::Size,
-        Refusal::Arguments => Refusal::Arguments,
-        Refusal::Short => Refusal::Short,
-    }
+    refusal.map_cause(|Position { number }| CCause {
+        position: number,
+        pointer: writes_ptr(operation, number),
+    })
 }
 
 impl Core for MiniC {
@@ -138,41 +153,15 @@ impl Core for MiniC {
     ghost stable = { c_stable };
 
     fn count(&self) -> u32 {
-        9
+        LANGUAGE.words.len() as u32
     }
 
     fn find(&self, name: &[u8]) -> Option<Found> {
-        if same_bytes(name, b"int") {
-            label(0, 0)
-        } else if same_bytes(name, b"void") {
-            label(1, 0)
-        } else if same_bytes(name, b"ptr") {
-            label(2, 1)
-        } else if same_bytes(name, b"func") {
-            label(3, 2)
-        } else if same_bytes(name, b"plus") {
-            operator(4, 2)
-        } else if same_bytes(name, b"addr") {
-            operator(5, 1)
-        } else if same_bytes(name, b"deref") {
-            operator(DEREF, 1)
-        } else if same_bytes(name, b"store") {
-            operator(STORE, 2)
-        } else if same_bytes(name, b"call") {
-            operator(8, 2)
-        } else {
-            None
-        }
+        find_word(LANGUAGE.words, name)
     }
 
     fn label_name(&self, label: u32) -> Option<&[u8]> {
-        match label {
-            0 => Some(b"int"),
-            1 => Some(b"void"),
-            2 => Some(b"ptr"),
-            3 => Some(b"func"),
-            _ => None,
-        }
+        label_word(LANGUAGE.words, label)
     }
 
     fn answer(
@@ -181,7 +170,7 @@ impl Core for MiniC {
         args: &[u32],
         out: &mut [u32],
     ) -> Result<usize, Refusal<CCause>> {
-        match answer_line(line_of(operation), 0, args, out) {
+        match answer_line(LANGUAGE.line(operation), 0, args, out) {
             Ok(n) => Ok(n),
             Err(refusal) => Err(marked(operation, refusal)),
         }

@@ -3,19 +3,51 @@ ghost use Rattle.std.specs.Prelude.{◌≡◌};
 ghost use Rattle.cores.specs.Pairs.{pair_entries};
 ghost use Rattle.std.proofs.Common.{rules};
 
-use crate::interface::{Found, label, operator};
+use crate::interface::{Found, Kind};
 use crate::layers::{Layer, Layered};
 use crate::lines::Item::{Arg, End, Label, Rho, Tau};
 use crate::lines::Line;
-use tokens::token::same_bytes;
+use crate::table::{Entry, find_word, label_word, operator_line};
 
-#[derive(Clone, Copy)]
+#[derive(Clone, Copy, PartialEq, Eq, Debug, Default)]
 pub struct Pairs;
 
 // Pairs over a core.
 pub type WithPairs<C> = Layered<Pairs, C>;
 
 const PAIR: u32 = 0xC000_0000;
+
+const WORDS: [Entry<'static>; 4] = [
+    Entry {
+        name: b"pair",
+        kind: Kind::Label(2),
+        line: None,
+    },
+    Entry {
+        name: b"mkpair",
+        kind: Kind::Operator(2),
+        line: Some(Line {
+            arguments: &[Arg(1), Tau, Arg(2), Rho, End(3)],
+            result: &[Label(PAIR), Tau, Rho],
+        }),
+    },
+    Entry {
+        name: b"first",
+        kind: Kind::Operator(1),
+        line: Some(Line {
+            arguments: &[Arg(1), Label(PAIR), Tau, Rho, End(2)],
+            result: &[Tau],
+        }),
+    },
+    Entry {
+        name: b"second",
+        kind: Kind::Operator(1),
+        line: Some(Line {
+            arguments: &[Arg(1), Label(PAIR), Tau, Rho, End(2)],
+            result: &[Rho],
+        }),
+    },
+];
 
 impl Layer for Pairs {
     ghost entries = { pair_entries };
@@ -27,48 +59,18 @@ impl Layer for Pairs {
     ghost inside = { Prim.search rules };
 
     fn own_count(&self) -> u32 {
-        4
+        WORDS.len() as u32
     }
 
     fn own_word(&self, name: &[u8]) -> Option<Found> {
-        if same_bytes(name, b"pair") {
-            label(0, 2)
-        } else if same_bytes(name, b"mkpair") {
-            operator(1, 2)
-        } else if same_bytes(name, b"first") {
-            operator(2, 1)
-        } else if same_bytes(name, b"second") {
-            operator(3, 1)
-        } else {
-            None
-        }
+        find_word(&WORDS, name)
     }
 
     fn own_label(&self, label: u32) -> Option<&[u8]> {
-        match label {
-            0 => Some(b"pair"),
-            _ => None,
-        }
+        label_word(&WORDS, label)
     }
 
     fn own_line(&self, operator: u32) -> Option<Line<'_>> {
-        match operator {
-            // mkpair
-            1 => Some(Line {
-                arguments: &[Arg(1), Tau, Arg(2), Rho, End(3)],
-                result: &[Label(PAIR), Tau, Rho],
-            }),
-            // first
-            2 => Some(Line {
-                arguments: &[Arg(1), Label(PAIR), Tau, Rho, End(2)],
-                result: &[Tau],
-            }),
-            // second
-            3 => Some(Line {
-                arguments: &[Arg(1), Label(PAIR), Tau, Rho, End(2)],
-                result: &[Rho],
-            }),
-            _ => None,
-        }
+        operator_line(&WORDS, operator)
     }
 }

@@ -1,5 +1,5 @@
 -- Encoding and decoding undo one another; what the words of a type say of it.
-use Rattle.std.proofs.Common.{◌≡◌, ℕ, zero, suc, ◌+◌, ◌<◌, Bool, true, false, List, [], ◌∷◌, length, get_or, drop, Some, None, Decides, Option, sym, refl, ap, ◌∙◌, subst, arith}
+use Rattle.std.proofs.Common.{◌≡◌, ℕ, zero, suc, ◌+◌, ◌<◌, ◌≤◌, Bool, true, false, List, [], ◌∷◌, length, get_or, drop, Some, None, Decides, Option, sym, refl, ap, ◌∙◌, subst, arith}
 use mathlib.Core.Bool.{false≢true}
 use Rattle.std.proofs.lemmas.Slice.Eq.{bytes_eq-Decides}
 use Rattle.std.specs.Str.{bytes_eq}
@@ -9,11 +9,7 @@ use Rattle.types.specs.Encoding.{Encoding, FirstType, AreTypes, TellsSame}
 use Rattle.types.specs.declared.words.Node.{Node}
 use Rattle.types.specs.declared.words.Node.TheVariants.{Leaf as LeafNode, Label0, Label1, Label2}
 use Rattle.types.proofs.Same.{mapped_some}
-use Rattle.types.proofs.Spelling.{node_word_node, node_node_word, node_number_node, types_spelled, types_encode_all, whole_is, is_whole, encode_injective, length_encode, span_one}
-
-pub encoding : Encoding
-encoding =
-    record { reads = node_word_node; writes = node_node_word; long = length_encode; back = types_encode_all; spelled = types_spelled; forth = whole_is; apart = encode_injective }
+use Rattle.types.proofs.Spelling.{node_word_node, node_node_word, node_number_node, types_spelled, types_encode_all, whole_is, is_whole, encode_injective, length_spell, length_encode, span_one}
 
 -- the first type of a run
 abbrev spell_all : List Ty → List ℕ → List ℕ
@@ -81,6 +77,10 @@ first_type ws fits (Some n) e = only (fronts ws fits 1 n (sym e))
     only : Fronts ws 1 n → FirstType ws (Some n)
     only f = pick f.ts f.spelled f.many f.long f.whole_run
 
+-- a first type lies within the run
+pub first_within : (ws : List ℕ) (n : ℕ) → FirstType ws (Some n) → n ≤ length ws
+first_within ws n (t, _, e, f) = let l = length_spell t (drop n ws) in let g = ap (λ (xs : List ℕ). length xs) f in omega arith
+
 pub are_types : (ws : List ℕ) (r : Bool) → r ≡ whole ws → Decides r (AreTypes ws)
 are_types ws r e = (
   (λ t. (types ws, types_spelled ws, whole_is ws (sym e ∙ t))),
@@ -91,3 +91,15 @@ pub tells_same : (xs ys : List ℕ) (r : Bool) → r ≡ bytes_eq xs ys → Tell
 tells_same xs ys r e t u p q f g =
     let d = bytes_eq-Decides xs ys in
     ((λ h. encode_injective t u p q (f ∙ d.0 (sym e ∙ h) ∙ sym g)), (λ h. e ∙ d.1 (sym f ∙ ap encode h ∙ g)))
+
+pub encoding : Encoding
+encoding = record {
+  reads = node_word_node;
+  writes = node_node_word;
+  long = length_encode;
+  back = types_encode_all;
+  spelled = types_spelled;
+  forth = whole_is;
+  apart = encode_injective;
+  tells = λ xs ys. tells_same xs ys (bytes_eq xs ys) refl;
+}

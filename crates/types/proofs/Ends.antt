@@ -1,11 +1,11 @@
 -- The loops that find the end of a type and test for whole types.
-use Rattle.std.proofs.Common.{◌≡◌, ℕ, zero, suc, ◌+◌, ◌-◌, ◌<◌, ◌≤◌, Bool, true, false, cond, leb, List, [], ◌∷◌, ◌++◌, length, get_or, take, drop, Some, None, Option, sym, refl, ap, ◌∙◌, subst, arith, length-drop, take-append-drop}
+use Rattle.std.proofs.Common.{◌≡◌, ℕ, zero, suc, ◌+◌, ◌-◌, ◌<◌, ◌≤◌, Bool, true, false, cond, leb, List, [], ◌∷◌, ◌++◌, length, get_or, take, drop, Some, None, Option, sym, refl, ap, ◌∙◌, subst, arith, length-drop, take-append-drop, reverse}
 use mathlib.Core.Bool.{false≢true}
 use Rattle.std.proofs.lemmas.Bool.Decides.{nat_tests}
-use Rattle.std.proofs.lemmas.List.{drop_more, drop_all, length-take-le}
+use Rattle.std.proofs.lemmas.List.{drop_more, drop_all, length-take-le, length-reverse, get_or-reverse, get_or_default}
 use Rattle.std.specs.Option.{option_map}
 use Rattle.types.specs.Types.{Ty}
-use Rattle.types.specs.Words.{node, node_word, grown, types, encode_all, whole, wanting, types_with, span}
+use Rattle.types.specs.Words.{node, node_word, grown, types, encode_all, whole, wanting, parts, types_with, span}
 use Rattle.types.specs.declared.words.Node.{Node}
 use Rattle.types.specs.declared.words.Node.TheVariants.{Leaf as LeafNode, Label0, Label1, Label2}
 use Rattle.types.proofs.Spelling.{node_word_node, whole_is, is_whole}
@@ -67,13 +67,6 @@ wanting_most (LeafNode n) k = omega arith
 wanting_most (Label0 n) k = omega arith
 wanting_most (Label1 n) k = omega arith
 wanting_most (Label2 n) k = omega arith
-
--- how many parts a word takes
-abbrev pub parts : Node → ℕ
-parts (LeafNode n) = 0
-parts (Label0 n) = 0
-parts (Label1 n) = 1
-parts (Label2 n) = 2
 
 grown_whole : (d : Node) (ts : List Ty) → parts d ≤ length ts → encode_all (grown d ts) ≡ node_word d ∷ encode_all ts
 grown_whole (LeafNode n) ts h = refl
@@ -186,18 +179,35 @@ whole_lacks ws i count d (e, c, _) h is told =
     let t = length-take-le i ws (omega arith) in
     sym (short_no_whole ws (omega arith) (whole ws) refl)
 
-pub whole_end : (ws : List ℕ) (i count : ℕ) → WholeFrom ws i count → i ≡ 0 → true ≡ whole ws
-whole_end ws i count (e, _, _) z = sym (is_whole ws (subst (λ (k : ℕ). encode_all (types (drop k ws)) ≡ drop k ws) z e))
 
--- the same one word further to the front, where the index counts down
-pub whole_back : (ws : List ℕ) (i count next : ℕ) (d : Node) → WholeFrom ws i count → 0 < i → i ≤ length ws → get_or ws (i - 1) 0 < 4294967296 →
-    d ≡ node (get_or ws (i - 1) 0) → types_with d count ≡ Some next → WholeFrom ws (i - 1) next
-whole_back ws i count next d w p le f is told =
-    let e : i ≡ (i - 1) + 1 = omega arith in
-    whole_more ws (i - 1) count next d (subst (λ (k : ℕ). WholeFrom ws k count) e w) (omega arith) f is told
+-- the same of the last k words, where a loop goes from the back
+abbrev pub WholeBack : List ℕ → ℕ → ℕ → Type 0
+WholeBack ws k count = (k ≤ length ws) × WholeFrom ws (length ws - k) count
 
-pub lacks_back : (ws : List ℕ) (i count : ℕ) (d : Node) → WholeFrom ws i count → 0 < i → i ≤ length ws → d ≡ node (get_or ws (i - 1) 0) → types_with d count ≡ None →
-    false ≡ whole ws
-lacks_back ws i count d w p le is told =
-    let e : i ≡ (i - 1) + 1 = omega arith in
-    whole_lacks ws (i - 1) count d (subst (λ (k : ℕ). WholeFrom ws k count) e w) (omega arith) is told
+-- the word that a loop from the back reads
+abbrev pub ReadBack : List ℕ → ℕ → ℕ → Type 0
+ReadBack ws k w = (k < length (reverse ws)) × (w ≡ get_or (reverse ws) k w)
+
+read_back : (ws : List ℕ) (k w : ℕ) → ReadBack ws k w → (k < length ws) × (w ≡ get_or ws (length ws - (k + 1)) 0)
+read_back ws k w (h, e) =
+    let l : k < length ws = omega (arith, length-reverse ws) in
+    let g = get_or-reverse ws k w l in
+    let i : length ws - 1 - k ≡ length ws - (k + 1) = omega arith in
+    (l, e ∙ g ∙ ap (λ (j : ℕ). get_or ws j w) i ∙ get_or_default ws (length ws - (k + 1)) w 0 (omega arith))
+
+pub whole_back : (ws : List ℕ) (k count next w : ℕ) → ((i : ℕ) → get_or ws i 0 < 4294967296) → WholeBack ws k count → ReadBack ws k w → types_with (node w) count ≡ Some next → WholeBack ws (k + 1) next
+whole_back ws k count next w fits p r told =
+    let (l, e) = read_back ws k w r in
+    let i : length ws - k ≡ (length ws - (k + 1)) + 1 = omega arith in
+    (omega arith, whole_more ws (length ws - (k + 1)) count next (node w) (subst (λ (j : ℕ). WholeFrom ws j count) i p.1) (omega arith) (fits _) (ap node e) told)
+
+pub lacks_back : (ws : List ℕ) (k count w : ℕ) → WholeBack ws k count → ReadBack ws k w → types_with (node w) count ≡ None → false ≡ whole ws
+lacks_back ws k count w p r told =
+    let (l, e) = read_back ws k w r in
+    let i : length ws - k ≡ (length ws - (k + 1)) + 1 = omega arith in
+    whole_lacks ws (length ws - (k + 1)) count (node w) (subst (λ (j : ℕ). WholeFrom ws j count) i p.1) (omega arith) (ap node e) told
+
+pub whole_end : (ws : List ℕ) (k count : ℕ) → WholeBack ws k count → k ≡ length (reverse ws) → true ≡ whole ws
+whole_end ws k count (_, (e, _, _)) l =
+    let z : length ws - k ≡ 0 = omega (arith, length-reverse ws) in
+    sym (is_whole ws (subst (λ (j : ℕ). encode_all (types (drop j ws)) ≡ drop j ws) z e))

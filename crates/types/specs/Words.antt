@@ -31,6 +31,13 @@ node_number (Label2 n) = n
 abbrev pub word_of : Node → Option ℕ
 word_of d = cond (nat_lt (node_number d) 1073741824) (Some (node_word d)) None
 
+-- how many parts stand behind a word
+abbrev pub parts : Node → ℕ
+parts (LeafNode n) = 0
+parts (Label0 n) = 0
+parts (Label1 n) = 1
+parts (Label2 n) = 2
+
 -- a word in front of types takes the parts that its label has; one that lacks parts is lost
 abbrev pub grown : Node → List Ty → List Ty
 grown (LeafNode n) ts = leaf (numbered n) ∷ ts
@@ -85,6 +92,10 @@ span [] zero = Some 0
 span [] (suc k) = None
 span (w ∷ ws) zero = Some 0
 span (w ∷ ws) (suc k) = option_map (λ n. suc n) (span ws (wanting (node w) k))
+
+-- the words of the first type, and those behind it
+abbrev pub first_type : List ℕ → Option (List ℕ × List ℕ)
+first_type ws = option_map (λ n. (take n ws, drop n ws)) (span ws 1)
 
 -- words copied over others from a place on
 abbrev pub pasted : List ℕ → ℕ → List ℕ → List ℕ

@@ -6,8 +6,6 @@ pub mod words;
 ghost use Rattle.types.specs.Encoding.{Encoding};
 
 // Encoding and decoding undo one another, and different types have different words.
-pub fn types_and_words_correspond() -> u8
+pub fn types_and_words_correspond()
     ensures { Encoding }
-{
-    0
-}
+{}

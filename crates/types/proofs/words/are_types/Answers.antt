@@ -1,29 +1,31 @@
-use Rattle.std.proofs.Common.{◌-◌, ◌<◌, true, false, get_or, sym, ◌∙◌, arith}
-use Rattle.types.proofs.Ends.{whole_start, whole_back, lacks_back, whole_end}
+use Rattle.std.proofs.Common.{false, true, length, subst, sym, arith}
+use Rattle.std.proofs.lemmas.Iterator.Adapters.{YieldsList-from_rev_slice}
+use Rattle.std.proofs.lemmas.Iterator.Consumers.{YieldsList-turn, YieldsList-end}
+use Rattle.std.proofs.lemmas.List.{length_push}
+use Rattle.types.proofs.Ends.{WholeBack, ReadBack, whole_back, lacks_back, whole_end}
 use Rattle.types.proofs.Encodings.{are_types}
 use Rattle.types.proofs.words.are_types.Goals as goal
 
-pub loop-i-init : goal.loop-i-init
-loop-i-init c = whole_start c.args.words.now
-
-pub loop-i-preserved : goal.loop-i-preserved
-loop-i-preserved c =
+pub loop-word-preserved : goal.loop-word-preserved
+loop-word-preserved c =
     let ws = c.args.words.now in
-    let f : get_or ws (c.loop-i.i - 1) 0 < 4294967296 = omega (arith, c.type_inv.words (c.loop-i.i - 1)) in
-    let p = c.loop-i-test.true in
-    let b = c.loop-i.invariant.2 in
-    whole_back ws c.loop-i.i c.loop-i.count c.in-Some.n c.node_of.result c.loop-i.invariant (omega arith) (omega arith) f
-    c.node_of.ensures (sym c.types_with.ensures ∙ c.in-Some.is)
+    let r : ReadBack ws (length c.loop-word.yielded) c.in-Some.word.now =
+    YieldsList-turn (YieldsList-from_rev_slice ws (cc)) c.loop-word.yielded _ c.loop-word.yielded_by _ _ c.in-Some.word c.in-Some.is c.next.ensures.steps in
+    let n = c.in-Some-types_with.n in
+    subst (λ k. WholeBack ws k n) (sym (length_push c.loop-word.yielded c.in-Some.word))
+        (whole_back ws _ c.loop-word.count n c.in-Some.word.now (λ i. omega (arith, c.type_inv.words i)) c.loop-word.invariant r (cc))
 
-pub returns-in-None : goal.returns-in-None
-returns-in-None c =
-    let b = c.loop-i.invariant.2 in
-    let e =
-    lacks_back c.args.words.now c.loop-i.i c.loop-i.count c.node_of.result c.loop-i.invariant (omega arith) (omega arith)
-    c.node_of.ensures (sym c.types_with.ensures ∙ c.in-None.is) in
-    record { tells = e; means = are_types c.args.words.now false e }
+pub returns-in_default : goal.returns-in_default
+returns-in_default c =
+    let ws = c.args.words.now in
+    let r : ReadBack ws (length c.loop-word.yielded) c.in-Some.word.now =
+    YieldsList-turn (YieldsList-from_rev_slice ws (cc)) c.loop-word.yielded _ c.loop-word.yielded_by _ _ c.in-Some.word c.in-Some.is c.next.ensures.steps in
+    let e = lacks_back ws _ c.loop-word.count c.in-Some.word.now c.loop-word.invariant r (cc) in
+    record { tells = e; means = are_types ws false e }
 
 pub returns : goal.returns
 returns c =
-    let e = whole_end c.args.words.now c.loop-i.i c.loop-i.count c.loop-i.invariant (omega arith) in
-    record { tells = e; means = are_types c.args.words.now true e }
+    let ws = c.args.words.now in
+    let r = YieldsList-end (YieldsList-from_rev_slice ws (cc)) c.loop-word.yielded _ c.loop-word.yielded_by _ _ c.in-None.is c.next.ensures.steps in
+    let e = whole_end ws _ c.loop-word.count c.loop-word.invariant r.1 in
+    record { tells = e; means = are_types ws true e }
