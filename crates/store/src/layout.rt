@@ -5,10 +5,10 @@ ghost use Rattle.store.specs.Directories.{live};
 ghost use Rattle.store.specs.Layout.{record_at, record_bytes, stored, written};
 ghost use Rattle.store.specs.Units.{units, Kept};
 
+use super::bytes::{bytes_at, write_bytes};
 use super::directory::{Directory, MOST_UNITS};
 use super::edit::is_lawful;
 use super::entry::{BLANK, Entry};
-use super::number::{read_number, write_number};
 
 // The bytes of a store.
 pub const STORE_BYTES: usize = 65536;
@@ -22,11 +22,11 @@ fn read_entry(store: &[u8], at: usize) -> Entry
     ensures { result ≡ record_at store.now at }
 {
     Entry {
-        name: read_number(store, at, 16),
-        size: read_number(store, at + 16, 1) as u8,
-        place: read_number(store, at + 17, 2) as u16,
-        span: read_number(store, at + 19, 2) as u16,
-        rank: read_number(store, at + 21, 1) as u8,
+        name: u128::from_be_bytes(bytes_at(store, at)),
+        size: store[at + 16],
+        place: u16::from_be_bytes(bytes_at(store, at + 17)),
+        span: u16::from_be_bytes(bytes_at(store, at + 19)),
+        rank: store[at + 21],
     }
 }
 
@@ -35,11 +35,11 @@ fn write_entry(store: &mut [u8], at: usize, e: Entry)
     requires { at + 22 ≤ length store.old }
     ensures { store.new ≡ laid at (record_bytes e) store.old }
 {
-    write_number(store, at, 16, e.name);
-    write_number(store, at + 16, 1, u128::from(e.size));
-    write_number(store, at + 17, 2, u128::from(e.place));
-    write_number(store, at + 19, 2, u128::from(e.span));
-    write_number(store, at + 21, 1, u128::from(e.rank));
+    write_bytes(store, at, &e.name.to_be_bytes());
+    store[at + 16] = e.size;
+    write_bytes(store, at + 17, &e.place.to_be_bytes());
+    write_bytes(store, at + 19, &e.span.to_be_bytes());
+    store[at + 21] = e.rank;
 }
 
 // The directory of a store; the one without records where the store is unlawful or has another length than a store
@@ -51,15 +51,15 @@ pub fn read(store: &[u8]) -> Directory
     if store.len() != STORE_BYTES {
         return Directory::empty();
     }
-    let count = read_number(store, 0, 1) as usize;
+    let count = usize::from(store[0]);
     if count > MOST_UNITS {
         return Directory::empty();
     }
     let mut entries = [BLANK; 16];
-    for i in 0..count {
-        entries[i] = read_entry(store, 1 + RECORD_BYTES * i);
+    for (i, e) in entries[..count].iter_mut().enumerate() {
+        *e = read_entry(store, 1 + RECORD_BYTES * i);
     }
-    if is_lawful(&entries[0..count]) {
+    if is_lawful(&entries[..count]) {
         Directory { count, entries }
     } else {
         Directory::empty()
@@ -76,9 +76,9 @@ pub fn write(directory: Directory, store: &mut [u8]) -> bool
     if store.len() != STORE_BYTES {
         return false;
     }
-    write_number(store, 0, 1, directory.count as u128);
-    for i in 0..directory.count {
-        write_entry(store, 1 + RECORD_BYTES * i, directory.entries[i]);
+    store[0] = directory.count as u8;
+    for (i, e) in directory.records().iter().enumerate() {
+        write_entry(store, 1 + RECORD_BYTES * i, *e);
     }
     true
 }

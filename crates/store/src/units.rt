@@ -4,11 +4,12 @@ ghost use Rattle.store.specs.Layout.{written};
 ghost use Rattle.store.specs.Units.{units as units_of, put_in, taken_out, Replaced, Removed, TextOf, NameOf};
 ghost use Rattle.store.specs.Calls.{name_in, unit_for, put_answer, store_after_put, remove_answer, store_after_remove};
 
+use super::bytes::{move_bytes, write_bytes};
 use super::directory::Directory;
 use super::entry::{Entry, LONGEST_TEXT};
 use super::layout::{STORE_BYTES, read, write};
 use super::name::name_number;
-use super::texts::{move_text, slot, write_text};
+use super::texts::slot;
 
 // Why a store was left as it was.
 #[derive(Clone, Copy, PartialEq, Eq, Debug)]
@@ -79,7 +80,7 @@ pub fn put(
         return Err(Refusal::Full);
     };
     let (directory, k) = changed;
-    write_text(store, slot(k), text);
+    write_bytes(store, slot(k), text);
     let _ = write(directory, store);
     Ok(k)
 }
@@ -102,7 +103,7 @@ pub fn remove(store: &mut [u8], name: u128) -> Result<usize, Refusal>
     let (rest, k) = changed;
     let last = directory.count - 1;
     let span = usize::from(directory.entries[last].span);
-    move_text(store, slot(last), slot(k), span);
+    move_bytes(store, slot(last), slot(k), span);
     let _ = write(rest, store);
     Ok(k)
 }

@@ -9,8 +9,8 @@ use Rattle.store.proofs.Holding.{seat_held, length_held}
 use Rattle.store.proofs.Members.{once_units, removed}
 use Rattle.store.proofs.units.remove.Goals as goal
 
-pub move_text-requires : goal.move_text-requires
-move_text-requires c =
+pub move_bytes-requires : goal.move_bytes-requires
+move_bytes-requires c =
     let d = c.read-directory.result in
     let s = c.args.store.now in
     let n = count_of d s c.read-directory.ensures.records in
@@ -27,8 +27,8 @@ returns c =
     let n = count_of d s c.read-directory.ensures.records in
     let p = subst (λ es. (seat c.args.name es < length es) × (live c.in-Some.changed.0 ≡ vacated (seat c.args.name es) blank es) × (c.in-Some.changed.1 ≡ seat c.args.name es)) c.read-directory.ensures.records c.in-Some.ensures in
     let below = p.0 in
-    let done = remove_done s c.move_text.new.store c.write.new.store c.args.name c.in-Some.changed.1 c.slot.result c.slot-2.result c.from-span.result (live c.in-Some.changed.0)
+    let done = remove_done s c.move_bytes.new.store c.write.new.store c.args.name c.in-Some.changed.1 c.slot.result c.slot-2.result c.from-span.result (live c.in-Some.changed.0)
     c.if-store-ne-STORE_BYTES.false p.0 p.1 p.2 (c.slot.ensures ∙ ap (λ m. slot (m - 1)) (sym n)) c.slot-2.ensures
     (c.from-span.ensures ∙ ap (λ e. e.span) (record_is d s (d.count - 1) c.read-directory.ensures.records (omega arith)) ∙ ap (λ m. (get_or (stored s) (m - 1) blank).span) (sym n))
-    c.move_text.ensures c.write.ensures.bytes in
+    c.move_bytes.ensures c.write.ensures.bytes in
     record { answer = sym done.0; bytes = done.1; law = done.2; removed = λ x. subst (Removed c.args.name (units s)) (sym done.2) (removed c.args.name (units s) (once_units s) (omega (arith, seat_held c.args.name (stored s) s, length_held (stored s) s, p.0))) }
