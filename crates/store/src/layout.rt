@@ -1,5 +1,5 @@
 // How a directory lies in the bytes of a store.
-ghost use Rattle.std.specs.Prelude.{◌≡◌, ◌+◌, ◌≤◌, true, length, ◌==◌};
+ghost use Rattle.std.specs.Prelude.{◌≡◌, ◌+◌, ◌≤◌, true, length, is_ok, ◌==◌};
 ghost use Rattle.store.specs.Numbers.{laid};
 ghost use Rattle.store.specs.Directories.{live};
 ghost use Rattle.store.specs.Layout.{record_at, record_bytes, stored, written};
@@ -15,6 +15,10 @@ pub const STORE_BYTES: usize = 65536;
 
 // The bytes of a record.
 pub(crate) const RECORD_BYTES: usize = 22;
+
+// A store has not the bytes of a store.
+#[derive(Clone, Copy, PartialEq, Eq, Debug)]
+pub struct WrongLength;
 
 // The record that stands at a place.
 fn read_entry(store: &[u8], at: usize) -> Entry
@@ -66,19 +70,19 @@ pub fn read(store: &[u8]) -> Directory
     }
 }
 
-// Writes a directory into a store, so that it is what is read from it; false, and nothing is written, where the
-// store has another length than a store has. Some steps for each byte of the records.
-pub fn write(directory: Directory, store: &mut [u8]) -> bool
-    ensures answer { result ≡ (length store.old == 65536) }
+// Writes a directory into a store, so that it is what is read from it; a store that has another length than a store
+// has is refused, and nothing is written. Some steps for each byte of the records.
+pub fn write(directory: Directory, store: &mut [u8]) -> Result<(), WrongLength>
+    ensures answer { is_ok result ≡ (length store.old == 65536) }
     ensures bytes { store.new ≡ written (live directory) store.old }
-    ensures back { result ≡ true → stored store.new ≡ live directory }
+    ensures back { is_ok result ≡ true → stored store.new ≡ live directory }
 {
     if store.len() != STORE_BYTES {
-        return false;
+        return Err(WrongLength);
     }
     store[0] = directory.count as u8;
     for (i, e) in directory.records().iter().enumerate() {
         write_entry(store, 1 + RECORD_BYTES * i, *e);
     }
-    true
+    Ok(())
 }
