@@ -1,7 +1,7 @@
 -- Bytes laid over others.
-use Rattle.std.proofs.Common.{◌≡◌, ℕ, suc, ◌+◌, ◌-◌, ◌<◌, ◌≤◌, List, [], ◌∷◌, ◌++◌, length, get_or, take, drop, set, sym, refl, ap, ◌∙◌, add-one, arith}
+use Rattle.std.proofs.Common.{◌≡◌, ℕ, suc, ◌+◌, ◌-◌, ◌/◌, ◌%◌, ◌<◌, ◌≤◌, List, [], ◌∷◌, ◌++◌, length, get_or, take, drop, set, sym, refl, ap, ◌∙◌, add-one, arith}
 use Rattle.std.proofs.lemmas.List.{append_assoc, length-append, length-take-le, length-drop, take-append-drop, take_more, take_at, drop_at, set_at, take-append-le, drop-append-le, take-take, drop-drop, drop-take, set_split, get_or-drop}
-use Rattle.store.specs.Numbers.{laid}
+use Rattle.store.specs.Numbers.{laid, spread}
 
 -- no bytes change nothing
 pub laid_none : (p : ℕ) (s : List ℕ) → laid p [] s ≡ s
@@ -15,6 +15,13 @@ laid_more q r b bs s e h =
     ∙ ap (λ t. set t q b) (append_assoc (take q s) (get_or s q 0 ∷ []) (bs ++ drop (q + 1 + length bs) s))
     ∙ set_at (take q s) (get_or s q 0) (bs ++ drop (q + 1 + length bs) s) b q (length-take-le q s (omega arith))
     ∙ ap (λ n. take q s ++ (b ∷ (bs ++ drop n s))) (let f : q + 1 + length bs ≡ q + suc (length bs) = omega arith in f)
+
+-- one byte written at a place
+pub laid_one : (q n : ℕ) (s : List ℕ) → n < 256 → q < length s → set s q n ≡ laid q (spread 1 n) s
+unfolding spread
+laid_one q n s small h =
+    let same : n ≡ (n / 1) % 256 = omega arith in
+    set_split s q n h ∙ ap (λ b. take q s ++ (b ∷ drop (suc q) s)) same ∙ ap (λ m. take q s ++ (((n / 1) % 256) ∷ drop m s)) (sym (add-one q))
 
 -- the bytes up to the end of those written, and the rest
 split : (p : ℕ) (a s : List ℕ) → laid p a s ≡ (take p s ++ a) ++ drop (p + length a) s

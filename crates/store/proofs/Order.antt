@@ -4,6 +4,8 @@ use lib.Arith.{digits_lt}
 use Rattle.std.specs.Int.Digits.{number_from_digits, AllBelowBase}
 use Rattle.std.proofs.lemmas.List.{length-append, length-replicate}
 use Rattle.std.proofs.lemmas.Bool.{and_parts, leb-true, not-true, eqb-false, cases_order}
+use Rattle.std.specs.List.{list_any}
+use Rattle.store.proofs.Seats.{none_is}
 use Rattle.store.specs.Numbers.{gather}
 use Rattle.store.specs.Names.{no_zero, is_name, number_of, name_number, NameLess, Ordered}
 use Rattle.store.proofs.Digits.{number_first, power_pos}
@@ -102,3 +104,7 @@ ordered a r ua is b m n ub ea eb =
 pub under_from : (bs : List ℕ) → ((k : ℕ) → get_or bs k 0 < 256) → AllBelowBase 256 bs
 under_from [] f = tt
 under_from (b ∷ bs) f = (f 0, under_from bs (λ k. f (suc k)))
+
+-- no byte is zero, in the words of the library
+pub no_zero_is : (bs : List ℕ) → not (list_any (λ b. eqb b 0) bs) ≡ no_zero bs
+no_zero_is = none_is no_zero (λ b. eqb b 0) refl (λ x xs. refl)

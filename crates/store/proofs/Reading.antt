@@ -1,45 +1,43 @@
--- A directory that was read from a store, and the parts of the store that it tells.
-use Rattle.std.proofs.Common.{◌≡◌, ℕ, ◌+◌, ◌-◌, ◌<◌, ◌≤◌, List, length, get_or, take, drop, sym, ap, ◌∙◌, arith}
-use Rattle.std.proofs.lemmas.List.{length-take-le, length-drop, get_or-take, take-take, drop-drop, drop-take}
-use Rattle.store.specs.declared.directory.Directory.{Directory}
-use Rattle.store.specs.Entries.{blank}
-use Rattle.store.specs.Directories.{live}
+-- A record that was read from a store, and the parts of the store that it tells.
+use Rattle.std.proofs.Common.{◌≡◌, ℕ, ◌+◌, ◌-◌, ◌<◌, ◌≤◌, Bool, true, false, cond, ltb, List, length, get_or, take, drop, Some, None, sym, refl, ap, ◌∙◌, arith}
+use Rattle.std.proofs.lemmas.List.{length-take-le, length-drop, take-take, drop-drop, drop-take}
+use Rattle.std.proofs.lemmas.Bool.{ltb-true, ltb-false}
+use Rattle.store.specs.declared.entry.Entry.{Entry}
+use Rattle.store.specs.Entries.{blank, entry_at}
 use Rattle.store.specs.Layout.{stored}
 use Rattle.store.specs.Units.{slot, units, no_unit}
 use Rattle.store.proofs.Holding.{length_held, get_d_held, lawful_stored, span_at}
+use Rattle.store.proofs.Lawful.{lawful_parts}
 use Rattle.store.proofs.Done.{full_length}
 
--- as many records as the directory counts
-pub count_of : (d : Directory) (s : List ℕ) → live d ≡ stored s → length (stored s) ≡ d.count
-count_of d s e =
-    let few : d.count ≤ 16 = d.few in
-    let long : length d.entries ≡ 16 = d.long in
-    sym (ap length e) ∙ length-take-le d.count d.entries (omega arith)
+-- the k-th record is told where there is one
+pub entry_told : (es : List Entry) (k : ℕ) (e : Entry) → Some e ≡ entry_at k es → (k < length es) × (e ≡ get_or es k blank)
+entry_told es k e h = go (ltb k (length es)) refl h
+  where
+    go : (t : Bool) → ltb k (length es) ≡ t → Some e ≡ cond t (Some (get_or es k blank)) None → (k < length es) × (e ≡ get_or es k blank)
+    go true a f = (ltb-true k (length es) a, cc)
+    go false a f = let z : ◌≡◌ {A = ℕ} 0 1 = cc in absurd (omega arith)
 
-pub units_count : (d : Directory) (s : List ℕ) → live d ≡ stored s → length (units s) ≡ d.count
-units_count d s e = length_held (stored s) s ∙ count_of d s e
-
-pub record_is : (d : Directory) (s : List ℕ) (k : ℕ) → live d ≡ stored s → k < d.count → get_or d.entries k blank ≡ get_or (stored s) k blank
-record_is d s k e h = sym (get_or-take d.count d.entries k blank h) ∙ ap (λ es. get_or es k blank) e
+pub no_entry : (es : List Entry) (k : ℕ) → None ≡ entry_at k es → length es ≤ k
+no_entry es k h = go (ltb k (length es)) refl h
+  where
+    go : (t : Bool) → ltb k (length es) ≡ t → None ≡ cond t (Some (get_or es k blank)) None → length es ≤ k
+    go true a f = let z : ◌≡◌ {A = ℕ} 0 1 = cc in absurd (omega arith)
+    go false a f = ltb-false k (length es) a
 
 -- the numbers of a record that was read
-pub record_bounds : (d : Directory) (s : List ℕ) (k : ℕ) → live d ≡ stored s → k < d.count →
-    ((get_or d.entries k blank).span ≤ 4000) × ((get_or d.entries k blank).place + (get_or d.entries k blank).size ≤ (get_or d.entries k blank).span) × (length s ≡ 65536) × (k < 16)
-record_bounds d s k e h =
-    let n = count_of d s e in
-    let few : d.count ≤ 16 = d.few in
-    let p = span_at (stored s) k (lawful_stored s) (omega arith) in
-    let same = record_is d s k e h in
-    let a = ap (λ x. x.span) same in
-    let b = ap (λ x. x.place) same in
-    let c = ap (λ x. x.size) same in
-    (omega (arith, p.0), omega (arith, p.1), full_length s (omega arith), omega arith)
+pub record_bounds : (s : List ℕ) (k : ℕ) → k < length (stored s) →
+    ((get_or (stored s) k blank).span ≤ 4000) × ((get_or (stored s) k blank).place + (get_or (stored s) k blank).size ≤ (get_or (stored s) k blank).span) × (length s ≡ 65536) × (k < 16)
+record_bounds s k h =
+    let p = span_at (stored s) k (lawful_stored s) h in
+    (p.0, p.1, full_length s (omega arith), omega (arith, (lawful_parts (stored s) (lawful_stored s)).0))
 
 -- the part of the store that holds a text
-pub text_told : (s : List ℕ) (k at n : ℕ) → k < length (stored s) → length s ≡ 65536 → k < 16 → n ≤ 4000 → at ≡ slot k → n ≡ (get_or (stored s) k blank).span →
+pub text_told : (s : List ℕ) (k at n : ℕ) → k < length (stored s) → at ≡ slot k → n ≡ (get_or (stored s) k blank).span →
     (k < length (units s)) × (take (at + n - at) (drop at s) ≡ (get_or (units s) k no_unit).text)
     × ((at ≡ slot k) × (take (at + n - at) (drop at s) ≡ take (length (take (at + n - at) (drop at s))) (drop (slot k) s)))
-text_told s k at n h long few short place span =
+text_told s k at n h place span =
+    let b = record_bounds s k h in
     let m : at + n - at ≡ n = omega arith in
     let part : take (at + n - at) (drop at s) ≡ take n (drop (slot k) s) = ap (λ x. take x (drop at s)) m ∙ ap (λ x. take n (drop x s)) place in
     let count : length (take (at + n - at) (drop at s)) ≡ n = ap length part ∙ length-take-le n (drop (slot k) s) (omega (arith, length-drop (slot k) s)) in (
@@ -48,24 +46,43 @@ text_told s k at n h long few short place span =
       (place, part ∙ ap (λ x. take x (drop (slot k) s)) (sym count)),
     )
 
--- the part of the store that holds a name
-pub name_told : (s : List ℕ) (k at n p : ℕ) → k < length (stored s) → length s ≡ 65536 → k < 16 → p + n ≤ (get_or (stored s) k blank).span → (get_or (stored s) k blank).span ≤ 4000 →
-    at ≡ slot k + p → n ≡ (get_or (stored s) k blank).size → p ≡ (get_or (stored s) k blank).place →
-    (k < length (units s)) × (take (at + n - at) (drop at s) ≡ take (get_or (units s) k no_unit).size (drop (get_or (units s) k no_unit).place (get_or (units s) k no_unit).text))
-    × ((at ≡ slot k + (get_or (units s) k no_unit).place) × (take (at + n - at) (drop at s) ≡ take (length (take (at + n - at) (drop at s))) (drop (slot k + (get_or (units s) k no_unit).place) s)))
-name_told s k at n p h long few inside short place size where-is =
-    let e = get_or (stored s) k blank in
+-- a part of a part
+pub part_within : (s text : List ℕ) (a b p n : ℕ) → text ≡ take (length text) (drop a s) → p + n ≤ length text → a + p ≡ b →
+    take (p + n - p) (drop p text) ≡ take (length (take (p + n - p) (drop p text))) (drop b s)
+part_within s text a b p n e h at =
+    let m : p + n - p ≡ n = omega arith in
+    let rest = length text - p in
+    let sum : length text ≡ p + rest = omega arith in
+    let count : length (take (p + n - p) (drop p text)) ≡ n = ap (λ x. length (take x (drop p text))) m ∙ length-take-le n (drop p text) (omega (arith, length-drop p text)) in
+    ap (λ x. take x (drop p text)) m ∙ ap (λ t. take n (drop p t)) (e ∙ ap (λ x. take x (drop a s)) sum)
+    ∙ ap (take n) (drop-take p rest (drop a s)) ∙ take-take n rest (drop p (drop a s)) (omega arith)
+    ∙ ap (take n) (drop-drop p a s ∙ ap (λ x. drop x s) at) ∙ ap (λ x. take x (drop b s)) (sym count)
+
+-- the numbers of the record of a unit lie in its text
+pub within_text : (s text : List ℕ) (k : ℕ) (e : Entry) → e ≡ get_or (stored s) k blank → k < length (units s) → text ≡ (get_or (units s) k no_unit).text →
+    (e.place + e.size ≤ length text) × (e.size ≡ (get_or (units s) k no_unit).size) × (e.place ≡ (get_or (units s) k no_unit).place)
+within_text s text k e is below same =
+    let h : k < length (stored s) = omega (arith, length_held (stored s) s) in
+    let b = record_bounds s k h in
     let u = get_d_held (stored s) s k no_unit h in
-    let m : at + n - at ≡ n = omega arith in
-    let part : take (at + n - at) (drop at s) ≡ take n (drop (slot k + p) s) = ap (λ x. take x (drop at s)) m ∙ ap (λ x. take n (drop x s)) place in
-    let count : length (take (at + n - at) (drop at s)) ≡ n = ap length part ∙ length-take-le n (drop (slot k + p) s) (omega (arith, length-drop (slot k + p) s)) in
-    let sum : p + (e.span - p) ≡ e.span = omega arith in
-    let within : take n (drop p (take e.span (drop (slot k) s))) ≡ take n (drop (slot k + p) s) =
-    ap (λ x. take n (drop p (take x (drop (slot k) s)))) (sym sum) ∙ ap (take n) (drop-take p (e.span - p) (drop (slot k) s))
-    ∙ take-take n (e.span - p) (drop p (drop (slot k) s)) (omega arith) ∙ ap (take n) (drop-drop p (slot k) s) in
-    let at_place : slot k + p ≡ slot k + (get_or (units s) k no_unit).place = ap (λ x. slot k + x) (where-is ∙ sym (ap (λ v. v.place) u)) in (
-      omega (arith, length_held (stored s) s),
-      part ∙ sym within ∙ ap (λ x. take x (drop p (take e.span (drop (slot k) s)))) size ∙ ap (λ x. take e.size (drop x (take e.span (drop (slot k) s)))) where-is
-          ∙ sym (ap (λ v. take v.size (drop v.place v.text)) u),
-      (place ∙ at_place, part ∙ ap (λ x. take x (drop (slot k + p) s)) (sym count) ∙ ap (λ x. take (length (take (at + n - at) (drop at s))) (drop x s)) at_place),
+    let r = get_or (stored s) k blank in
+    let count : length text ≡ r.span = ap length (same ∙ ap (λ v. v.text) u) ∙ length-take-le r.span (drop (slot k) s) (omega (arith, length-drop (slot k) s)) in
+    let size = ap (λ x. x.size) is in
+    let place = ap (λ x. x.place) is in
+    (omega arith, size ∙ sym (ap (λ v. v.size) u), place ∙ sym (ap (λ v. v.place) u))
+
+-- the part of a text that holds the name
+pub name_told : (s text : List ℕ) (k at p n : ℕ) (e : Entry) → e ≡ get_or (stored s) k blank → k < length (units s) → text ≡ (get_or (units s) k no_unit).text →
+    at ≡ slot k → text ≡ take (length text) (drop (slot k) s) → p ≡ e.place → n ≡ e.size →
+    (k < length (units s)) × (take (p + n - p) (drop p text) ≡ take (get_or (units s) k no_unit).size (drop (get_or (units s) k no_unit).place (get_or (units s) k no_unit).text))
+    × ((at + p ≡ slot k + (get_or (units s) k no_unit).place) × (take (p + n - p) (drop p text) ≡ take (length (take (p + n - p) (drop p text))) (drop (slot k + (get_or (units s) k no_unit).place) s)))
+name_told s text k at p n e is below same place part p_is n_is =
+    let w = within_text s text k e is below same in
+    let u = get_or (units s) k no_unit in
+    let m : p + n - p ≡ n = omega arith in
+    let p_of : p ≡ u.place = p_is ∙ w.2 in
+    let n_of : p + n - p ≡ u.size = m ∙ n_is ∙ w.1 in (
+      below,
+      ap (λ x. take x (drop p text)) n_of ∙ ap (λ x. take u.size (drop x text)) p_of ∙ ap (λ t. take u.size (drop u.place t)) same,
+      (omega arith, part_within s text (slot k) (slot k + u.place) p n part (omega arith) (omega arith)),
     )

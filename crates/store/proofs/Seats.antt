@@ -1,9 +1,12 @@
 -- The place of a name among records, and lists changed at one place.
-use Rattle.std.proofs.Common.{◌≡◌, ℕ, zero, suc, ◌+◌, ◌-◌, ◌<◌, ◌≤◌, max, Bool, true, false, cond, not, ◌&&◌, eqb, List, [], ◌∷◌, ◌++◌, length, get_or, take, drop, set, sym, refl, ap, ◌∙◌, ⊎_elim, arith}
+use Rattle.std.proofs.Common.{◌≡◌, ℕ, zero, suc, ◌+◌, ◌-◌, ◌<◌, ◌≤◌, max, Bool, true, false, cond, not, ◌&&◌, ◌||◌, eqb, List, [], ◌∷◌, ◌++◌, length, get_or, take, drop, set, sym, refl, ap, ◌∙◌, ⊎_elim, Some, None, unwrap_or, arith}
 use Rattle.std.proofs.lemmas.List.{at_drop_more, set_split, take_more_set, take_more, take-take, take_all, drop_all, length-take-le, get_or-take}
-use Rattle.std.proofs.lemmas.Bool.{eq-eqb, ne_eqb, cond-true, cond-false, cases_lt, and_left, not_from_true, not_from_false}
+use Rattle.std.proofs.lemmas.Bool.{eq-eqb, ne_eqb, cond-true, cond-false, cases_lt, lt-ltb, le-ltb, and_left, not_from_true, not_from_false}
+use Rattle.std.proofs.lemmas.List.Recursion.{is_position_or_len, same_from_clauses}
+use Rattle.std.proofs.lemmas.List.Sums.{prefix_len-le-length}
+use Rattle.std.specs.List.{position, position_or_len, list_any}
 use Rattle.store.specs.declared.entry.Entry.{Entry}
-use Rattle.store.specs.Entries.{seat, entered, vacated, clash, absent, well, sound}
+use Rattle.store.specs.Entries.{seat, found, entered, vacated, clash, absent, well, sound}
 
 pub seat_hit : (n i : ℕ) (es : List Entry) (d : Entry) → i < length es → (get_or es i d).name ≡ n → seat n (drop i es) ≡ 0
 seat_hit n i es d h e =
@@ -68,3 +71,34 @@ absent_miss n i es d h e = at_drop_more (absent n) es i d h ∙ ap (λ t. t && a
 
 pub well_step : (i : ℕ) (es : List Entry) (d : Entry) → i < length es → well (drop i es) ≡ (sound (get_or es i d) && (absent (get_or es i d).name (drop (i + 1) es) && well (drop (i + 1) es)))
 well_step i es d h = at_drop_more well es i d h
+
+-- the same, in the words of the library
+pub position_or : {X : Type 0} (p : X → Bool) (xs : List X) (k : ℕ) → length xs ≡ k → unwrap_or (position p xs) k ≡ position_or_len p xs
+position_or p xs k e =
+    let at = position_or_len p xs in
+    let le = prefix_len-le-length (λ x. not (p x)) xs in
+    ⊎_elim {C = unwrap_or (position p xs) k ≡ at}
+    (λ lt. ap (λ t. unwrap_or (cond t (Some at) None) k) (lt-ltb at (length xs) lt))
+    (λ ge. ap (λ t. unwrap_or (cond t (Some at) None) k) (le-ltb at (length xs) ge) ∙ omega arith)
+    (cases_lt at (length xs))
+
+seat_is : (n : ℕ) (es : List Entry) → seat n es ≡ position_or_len (λ e. eqb e.name n) es
+seat_is n es = is_position_or_len (seat n) (λ e. eqb e.name n) refl (λ x xs. ap (λ k. cond (eqb x.name n) 0 k) (omega arith)) es
+
+pub found_is : (n : ℕ) (es : List Entry) → found n es ≡ position (λ e. eqb e.name n) es
+found_is n es = rw (seat_is n es)
+
+-- where there is none, the count of records stands for the place
+pub found_or : (n k : ℕ) (es : List Entry) → length es ≡ k → unwrap_or (found n es) k ≡ seat n es
+found_or n k es e = ap (λ r. unwrap_or r k) (found_is n es) ∙ position_or (λ x. eqb x.name n) es k e ∙ sym (seat_is n es)
+
+-- a test of each element, of which none passes another
+pub none_is : {X : Type 0} (F : List X → Bool) (p : X → Bool) → F [] ≡ true → ((x : X) (xs : List X) → F (x ∷ xs) ≡ (not (p x) && F xs)) → (xs : List X) → not (list_any p xs) ≡ F xs
+none_is F p none step = same_from_clauses (λ xs. not (list_any p xs)) F (λ x r. not (p x) && r) (sym none) (λ x xs. apart (p x) (list_any p xs)) step
+  where
+    apart : (a b : Bool) → not (a || b) ≡ (not a && not b)
+    apart true b = refl
+    apart false b = refl
+
+pub absent_is : (n : ℕ) (es : List Entry) → not (list_any (λ e. clash e.name n) es) ≡ absent n es
+absent_is n = none_is (absent n) (λ e. clash e.name n) refl (λ x xs. refl)

@@ -1,10 +1,13 @@
 -- From the number of a name back to its bytes.
-use Rattle.std.proofs.Common.{◌≡◌, ℕ, zero, suc, ◌+◌, ◌-◌, ◌*◌, ◌/◌, ◌%◌, ◌^◌, ◌<◌, true, cond, not, eqb, List, [], ◌∷◌, ◌++◌, length, replicate, sym, refl, ap, ◌∙◌, subst, mod-lt, arith, lit<}
+use Rattle.std.proofs.Common.{◌≡◌, ℕ, zero, suc, ◌+◌, ◌-◌, ◌*◌, ◌/◌, ◌%◌, ◌^◌, ◌<◌, true, cond, not, eqb, List, [], ◌∷◌, ◌++◌, length, replicate, unwrap_or, sym, refl, ap, ◌∙◌, subst, mod-lt, arith, lit<}
 use lib.Arith.{digits_div, digits_mod}
 use Rattle.std.specs.Int.Digits.{number_from_digits, AllBelowBase}
 use Rattle.std.proofs.lemmas.Int.Digits.{number_lt}
 use Rattle.std.proofs.lemmas.List.{length-append, length-replicate}
 use Rattle.std.proofs.lemmas.Bool.{and_parts, not-true}
+use Rattle.std.proofs.lemmas.List.Recursion.{is_position_or_len}
+use Rattle.std.specs.List.{position}
+use Rattle.store.proofs.Seats.{position_or}
 use Rattle.store.specs.Numbers.{spread}
 use Rattle.store.specs.Names.{no_zero, front, Spells, Sizes}
 use Rattle.store.proofs.Digits.{number_first, length_spread, gather_spread}
@@ -39,6 +42,10 @@ spells n small bs u e =
     let pad = bs ++ replicate (16 - length bs) 0 in
     let long : length pad ≡ 16 = length-append bs (replicate (16 - length bs) 0) ∙ omega (arith, length-replicate {A = ℕ} (16 - length bs) 0, q.0) in
     digits_same (spread 16 n) pad (length_spread 16 n ∙ sym long) (under_spread 16 n) (under_pad bs (16 - length bs) u) (gather_spread 16 n small ∙ sym p.1)
+
+-- the first zero, in the words of the library
+pub front_is : (bs : List ℕ) (k : ℕ) → length bs ≡ k → unwrap_or (position (λ b. eqb b 0) bs) k ≡ front bs
+front_is bs k e = position_or (λ b. eqb b 0) bs k e ∙ sym (is_position_or_len front (λ b. eqb b 0) refl (λ x xs. ap (λ n. cond (eqb x 0) 0 n) (omega arith)) bs)
 
 front_zeros : (k : ℕ) → front (replicate k 0) ≡ 0
 front_zeros zero = refl

@@ -28,12 +28,7 @@ pub fn clashes(a: u128, b: u128) -> bool
 pub fn is_absent(name: u128, entries: &[Entry]) -> bool
     ensures { result ≡ absent name entries.now }
 {
-    for e in entries {
-        if clashes(e.name, name) {
-            return false;
-        }
-    }
-    true
+    !entries.iter().any(|e| clashes(e.name, name))
 }
 
 // Whether records can be those of a directory. At most 16 steps for each of at most 16 records.
@@ -43,11 +38,11 @@ pub fn is_lawful(entries: &[Entry]) -> bool
     if entries.len() > MOST_UNITS {
         return false;
     }
-    for i in 0..entries.len() {
-        if !is_sound(entries[i]) {
+    for (i, e) in entries.iter().enumerate() {
+        if !is_sound(*e) {
             return false;
         }
-        if !is_absent(entries[i].name, &entries[i + 1..]) {
+        if !is_absent(e.name, &entries[i + 1..]) {
             return false;
         }
     }
@@ -72,35 +67,32 @@ impl Directory {
         self.count
     }
 
+    // The records. Constant time.
+    pub fn records(&self) -> &[Entry]
+        ensures { result.now ≡ live self.now }
+    {
+        &self.entries[..self.count]
+    }
+
     // The k-th record. Constant time.
     pub fn entry(&self, k: usize) -> Option<Entry>
         ensures { result ≡ entry_at k (live self.now) }
     {
-        if k < self.count {
-            Some(self.entries[k])
-        } else {
-            None
-        }
-    }
-
-    // The place of the record of this name, or the count of records where there is none. At most 16 steps.
-    fn seat(&self, name: u128) -> usize
-        ensures { result ≡ seat_of name (live self.now) }
-    {
-        for i in 0..self.count {
-            if self.entries[i].name == name {
-                return i;
-            }
-        }
-        self.count
+        self.records().get(k).copied()
     }
 
     // The place of the record of this name. At most 16 steps.
     pub fn find(&self, name: u128) -> Option<usize>
         ensures { result ≡ found name (live self.now) }
     {
-        let i = self.seat(name);
-        if i < self.count { Some(i) } else { None }
+        self.records().iter().position(|e| e.name == name)
+    }
+
+    // The place of the record of this name, or the count of records where there is none. At most 16 steps.
+    fn seat(&self, name: u128) -> usize
+        ensures { result ≡ seat_of name (live self.now) }
+    {
+        self.find(name).unwrap_or(self.count)
     }
 
     // The directory with this record in place of the one of its name, or behind the last, and its place there; None

@@ -1,14 +1,14 @@
 // How a directory lies in the bytes of a store.
-ghost use Rattle.std.specs.Prelude.{◌≡◌, ◌+◌, ◌≤◌, true, length, ◌==◌};
+ghost use Rattle.std.specs.Prelude.{◌≡◌, ◌+◌, ◌≤◌, true, length, is_ok, ◌==◌};
 ghost use Rattle.store.specs.Numbers.{laid};
 ghost use Rattle.store.specs.Directories.{live};
 ghost use Rattle.store.specs.Layout.{record_at, record_bytes, stored, written};
 ghost use Rattle.store.specs.Units.{units, Kept};
 
+use super::bytes::{bytes_at, write_bytes};
 use super::directory::{Directory, MOST_UNITS};
 use super::edit::is_lawful;
 use super::entry::{BLANK, Entry};
-use super::number::{read_number, write_number};
 
 // The bytes of a store.
 pub const STORE_BYTES: usize = 65536;
@@ -16,17 +16,21 @@ pub const STORE_BYTES: usize = 65536;
 // The bytes of a record.
 pub(crate) const RECORD_BYTES: usize = 22;
 
+// A store has not the bytes of a store.
+#[derive(Clone, Copy, PartialEq, Eq, Debug)]
+pub struct WrongLength;
+
 // The record that stands at a place.
 fn read_entry(store: &[u8], at: usize) -> Entry
     requires { at + 22 ≤ length store.now }
     ensures { result ≡ record_at store.now at }
 {
     Entry {
-        name: read_number(store, at, 16),
-        size: read_number(store, at + 16, 1) as u8,
-        place: read_number(store, at + 17, 2) as u16,
-        span: read_number(store, at + 19, 2) as u16,
-        rank: read_number(store, at + 21, 1) as u8,
+        name: u128::from_be_bytes(bytes_at(store, at)),
+        size: store[at + 16],
+        place: u16::from_be_bytes(bytes_at(store, at + 17)),
+        span: u16::from_be_bytes(bytes_at(store, at + 19)),
+        rank: store[at + 21],
     }
 }
 
@@ -35,11 +39,11 @@ fn write_entry(store: &mut [u8], at: usize, e: Entry)
     requires { at + 22 ≤ length store.old }
     ensures { store.new ≡ laid at (record_bytes e) store.old }
 {
-    write_number(store, at, 16, e.name);
-    write_number(store, at + 16, 1, u128::from(e.size));
-    write_number(store, at + 17, 2, u128::from(e.place));
-    write_number(store, at + 19, 2, u128::from(e.span));
-    write_number(store, at + 21, 1, u128::from(e.rank));
+    write_bytes(store, at, &e.name.to_be_bytes());
+    store[at + 16] = e.size;
+    write_bytes(store, at + 17, &e.place.to_be_bytes());
+    write_bytes(store, at + 19, &e.span.to_be_bytes());
+    store[at + 21] = e.rank;
 }
 
 // The directory of a store; the one without records where the store is unlawful or has another length than a store
@@ -51,34 +55,34 @@ pub fn read(store: &[u8]) -> Directory
     if store.len() != STORE_BYTES {
         return Directory::empty();
     }
-    let count = read_number(store, 0, 1) as usize;
+    let count = usize::from(store[0]);
     if count > MOST_UNITS {
         return Directory::empty();
     }
     let mut entries = [BLANK; 16];
-    for i in 0..count {
-        entries[i] = read_entry(store, 1 + RECORD_BYTES * i);
+    for (i, e) in entries[..count].iter_mut().enumerate() {
+        *e = read_entry(store, 1 + RECORD_BYTES * i);
     }
-    if is_lawful(&entries[0..count]) {
+    if is_lawful(&entries[..count]) {
         Directory { count, entries }
     } else {
         Directory::empty()
     }
 }
 
-// Writes a directory into a store, so that it is what is read from it; false, and nothing is written, where the
-// store has another length than a store has. Some steps for each byte of the records.
-pub fn write(directory: Directory, store: &mut [u8]) -> bool
-    ensures answer { result ≡ (length store.old == 65536) }
+// Writes a directory into a store, so that it is what is read from it; a store that has another length than a store
+// has is refused, and nothing is written. Some steps for each byte of the records.
+pub fn write(directory: Directory, store: &mut [u8]) -> Result<(), WrongLength>
+    ensures answer { is_ok result ≡ (length store.old == 65536) }
     ensures bytes { store.new ≡ written (live directory) store.old }
-    ensures back { result ≡ true → stored store.new ≡ live directory }
+    ensures back { is_ok result ≡ true → stored store.new ≡ live directory }
 {
     if store.len() != STORE_BYTES {
-        return false;
+        return Err(WrongLength);
     }
-    write_number(store, 0, 1, directory.count as u128);
-    for i in 0..directory.count {
-        write_entry(store, 1 + RECORD_BYTES * i, directory.entries[i]);
+    store[0] = directory.count as u8;
+    for (i, e) in directory.records().iter().enumerate() {
+        write_entry(store, 1 + RECORD_BYTES * i, *e);
     }
-    true
+    Ok(())
 }

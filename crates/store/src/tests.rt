@@ -1,5 +1,5 @@
 // Samples: names as numbers, and units in a store.
-use super::layout::read;
+use super::layout::{WrongLength, read};
 use super::name::{name_number, name_size};
 use super::units::{Refusal, clear, name_of, put, remove};
 use std::test::Fail;
@@ -35,7 +35,7 @@ fn units_are_put_replaced_and_removed(rt: HostRuntime) -> Result<(), Fail> {
     let mut memory = vec![in rt.alloc(); 255; 65536]?;
     let store = memory.as_mut_slice();
     assert_eq!(rt; read(store).len(), 0);
-    assert!(rt; clear(store));
+    assert_eq!(rt; clear(store), Ok(()));
     for text in [b"A.", b"B.", b"C.", b"D.", b"E.", b"F.", b"G.", b"H."] {
         put_short(store, text)?;
     }
@@ -56,7 +56,7 @@ fn units_are_put_replaced_and_removed(rt: HostRuntime) -> Result<(), Fail> {
 #[test]
 fn other_lengths_are_refused(rt: HostRuntime) {
     let mut store = [0; 100];
-    assert!(rt; !clear(&mut store));
+    assert_eq!(rt; clear(&mut store), Err(WrongLength));
     assert_eq!(rt; put_short(&mut store, b"A."), Err(Refusal::StoreLength));
     assert_eq!(rt; read(&store).len(), 0);
 }

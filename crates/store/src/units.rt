@@ -1,14 +1,17 @@
 // The units of a store: reading, putting and removing them.
-ghost use Rattle.std.specs.Prelude.{◌≡◌, true, [], length, is_ok, if◌then◌else◌, ◌==◌};
-ghost use Rattle.store.specs.Layout.{written};
+ghost use Rattle.std.specs.Prelude.{◌≡◌, ◌≤◌, true, [], length, slice_index_or, is_ok, MatchOption, if◌then◌else◌, ◌==◌};
+ghost use Rattle.store.specs.declared.units.Refusal.TheVariants.{StoreLength};
+ghost use Rattle.store.specs.Entries.{blank};
+ghost use Rattle.store.specs.Layout.{stored, written};
 ghost use Rattle.store.specs.Units.{units as units_of, put_in, taken_out, Replaced, Removed, TextOf, NameOf};
 ghost use Rattle.store.specs.Calls.{name_in, unit_for, put_answer, store_after_put, remove_answer, store_after_remove};
 
+use super::bytes::{move_bytes, write_bytes};
 use super::directory::Directory;
 use super::entry::{Entry, LONGEST_TEXT};
-use super::layout::{STORE_BYTES, read, write};
+use super::layout::{STORE_BYTES, WrongLength, read, write};
 use super::name::name_number;
-use super::texts::{move_text, slot, write_text};
+use super::texts::slot;
 
 // Why a store was left as it was.
 #[derive(Clone, Copy, PartialEq, Eq, Debug)]
@@ -25,6 +28,14 @@ pub enum Refusal {
     Missing,
 }
 
+impl From<WrongLength> for Refusal {
+    ghost from_gives = { λ _ r. r ≡ StoreLength };
+
+    fn from(_: WrongLength) -> Refusal {
+        Refusal::StoreLength
+    }
+}
+
 // The number of the name that stands in a text at a place, `size` bytes long; None where none stands there. At most
 // 16 steps.
 pub fn name_within(text: &[u8], place: usize, size: usize) -> Option<u128>
@@ -36,9 +47,9 @@ pub fn name_within(text: &[u8], place: usize, size: usize) -> Option<u128>
     name_number(&text[place..place + size])
 }
 
-// Empties a store of 65,536 bytes; false, and nothing is written, at any other length. Constant time.
-pub fn clear(store: &mut [u8]) -> bool
-    ensures answer { result ≡ (length store.old == 65536) }
+// Empties a store of 65,536 bytes; at any other length it is refused, and nothing is written. Constant time.
+pub fn clear(store: &mut [u8]) -> Result<(), WrongLength>
+    ensures answer { is_ok result ≡ (length store.old == 65536) }
     ensures bytes { store.new ≡ written [] store.old }
     ensures law { units_of store.new ≡ [] }
 {
@@ -75,12 +86,11 @@ pub fn put(
         span: text.len() as u16,
         rank,
     };
-    let Some(changed) = read(store).with(e) else {
+    let Some((directory, k)) = read(store).with(e) else {
         return Err(Refusal::Full);
     };
-    let (directory, k) = changed;
-    write_text(store, slot(k), text);
-    let _ = write(directory, store);
+    write_bytes(store, slot(k), text);
+    write(directory, store)?;
     Ok(k)
 }
 
@@ -96,15 +106,24 @@ pub fn remove(store: &mut [u8], name: u128) -> Result<usize, Refusal>
         return Err(Refusal::StoreLength);
     }
     let directory = read(store);
-    let Some(changed) = directory.without(name) else {
+    let Some((rest, k)) = directory.without(name) else {
         return Err(Refusal::Missing);
     };
-    let (rest, k) = changed;
-    let last = directory.count - 1;
-    let span = usize::from(directory.entries[last].span);
-    move_text(store, slot(last), slot(k), span);
-    let _ = write(rest, store);
+    let last = directory.len() - 1;
+    let span = usize::from(directory.records()[last].span);
+    move_bytes(store, slot(last), slot(k), span);
+    write(rest, store)?;
     Ok(k)
+}
+
+// The record of the k-th unit, its text, as the part of the store that holds it, and the place of that part. Some
+// steps for each byte of the records.
+fn unit_at(store: &[u8], k: usize) -> Option<(Entry, &[u8], usize)>
+    ensures { MatchOption result (length (units_of store.now) ≤ k) (λ p. (p.0 ≡ slice_index_or (stored store.now) k blank) × TextOf store.now k (Some (p.1, p.2))) }
+{
+    let e = read(store).entry(k)?;
+    let at = slot(k);
+    Some((e, &store[at..at + usize::from(e.span)], at))
 }
 
 // The text of the k-th unit, as the part of the store that holds it, and the place of that part. Some steps for each
@@ -112,13 +131,8 @@ pub fn remove(store: &mut [u8], name: u128) -> Result<usize, Refusal>
 pub fn text_of(store: &[u8], k: usize) -> Option<(&[u8], usize)>
     ensures { TextOf store.now k result }
 {
-    let directory = read(store);
-    if k >= directory.count {
-        return None;
-    }
-    let at = slot(k);
-    let e = directory.entries[k];
-    Some((&store[at..at + usize::from(e.span)], at))
+    let (_, text, at) = unit_at(store, k)?;
+    Some((text, at))
 }
 
 // The name of the k-th unit, as the part of the store that holds it, and the place of that part. Some steps for each
@@ -126,11 +140,7 @@ pub fn text_of(store: &[u8], k: usize) -> Option<(&[u8], usize)>
 pub fn name_of(store: &[u8], k: usize) -> Option<(&[u8], usize)>
     ensures { NameOf store.now k result }
 {
-    let directory = read(store);
-    if k >= directory.count {
-        return None;
-    }
-    let e = directory.entries[k];
-    let at = slot(k) + usize::from(e.place);
-    Some((&store[at..at + usize::from(e.size)], at))
+    let (e, text, at) = unit_at(store, k)?;
+    let place = usize::from(e.place);
+    Some((&text[place..place + usize::from(e.size)], at + place))
 }

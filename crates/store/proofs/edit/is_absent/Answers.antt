@@ -1,18 +1,11 @@
-use Rattle.std.proofs.Common.{◌≡◌, true, drop, sym, ◌∙◌, arith}
-use Rattle.std.proofs.lemmas.List.{at_drop_all}
-use Rattle.store.specs.Entries.{blank, absent}
-use Rattle.store.proofs.Seats.{absent_hit, absent_miss}
+use Rattle.std.proofs.Common.{not, ap, ◌∙◌, rules, tests}
+use Rattle.std.proofs.lemmas.Iterator.{YieldsList-from_slice}
+use Rattle.std.proofs.lemmas.Iterator.Search.{any_from_yields_List}
+use Rattle.store.specs.Entries.{clash}
+use Rattle.store.proofs.Seats.{absent_is}
 use Rattle.store.proofs.edit.is_absent.Goals as goal
-
-pub returns-then-clashes : goal.returns-then-clashes
-returns-then-clashes c =
-    sym (c.loop-e.invariant ∙ absent_hit c.args.name c.loop-e.e-index c.args.entries.now blank (omega arith) (sym c.if-clashes.ensures))
-
-pub loop-e-preserved : goal.loop-e-preserved
-loop-e-preserved c =
-    c.loop-e.invariant ∙ absent_miss c.args.name c.loop-e.e-index c.args.entries.now blank (omega arith) (sym c.if-clashes.ensures)
 
 pub returns : goal.returns
 returns c =
-    let all : absent c.args.name (drop c.loop-e.e-index c.args.entries.now) ≡ true = at_drop_all (absent c.args.name) c.args.entries.now c.loop-e.e-index (omega arith) in
-    sym (c.loop-e.invariant ∙ all)
+    ap not (any_from_yields_List (λ e. clash e.name c.args.name) _ _ _ c.any.ensures.ran (YieldsList-from_slice c.args.entries.now cc) (λ x b q k. search (rules, tests)))
+    ∙ absent_is c.args.name c.args.entries.now

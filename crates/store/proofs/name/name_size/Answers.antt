@@ -1,45 +1,18 @@
-use Rattle.std.proofs.Common.{◌≡◌, ℕ, suc, ◌+◌, ◌^◌, ◌<◌, eqb, List, length, get_or, drop, sym, ap, ◌∙◌, arith}
-use Rattle.std.proofs.lemmas.List.{at_drop_more, at_drop_all}
-use Rattle.std.proofs.lemmas.Bool.{eq-eqb, ne_eqb, cond-true, cond-false}
+use Rattle.std.proofs.Common.{◌≡◌, ◌^◌, ◌<◌, eqb, unwrap_or, ap, ◌∙◌, arith, rules, tests}
+use Rattle.std.proofs.lemmas.Iterator.{YieldsList-from_slice}
+use Rattle.std.proofs.lemmas.Iterator.Search.{position_from_yields_List}
+use Rattle.std.specs.List.{position}
 use Rattle.store.specs.Numbers.{spread}
 use Rattle.store.specs.Names.{front}
 use Rattle.store.proofs.Digits.{length_spread}
-use Rattle.store.proofs.Spelling.{sizes}
+use Rattle.store.proofs.Spelling.{sizes, front_is}
 use Rattle.store.proofs.name.name_size.Goals as goal
-
-front_stop : (bs : List ℕ) (i : ℕ) → i < length bs → get_or bs i 0 ≡ 0 → front (drop i bs) ≡ 0
-front_stop bs i h e = at_drop_more front bs i 0 h ∙ cond-true (eqb (get_or bs i 0) 0) 0 (suc (front (drop (i + 1) bs))) (eq-eqb (get_or bs i 0) 0 e)
-
-front_step : (bs : List ℕ) (i : ℕ) → i < length bs → (get_or bs i 0 ≡ 0 → ⊥) → front (drop i bs) ≡ suc (front (drop (i + 1) bs))
-front_step bs i h e = at_drop_more front bs i 0 h ∙ cond-false (eqb (get_or bs i 0) 0) 0 (suc (front (drop (i + 1) bs))) (ne_eqb (get_or bs i 0) 0 e)
-
-pub returns-then-bytes-i-eq0 : goal.returns-then-bytes-i-eq0
-returns-then-bytes-i-eq0 c =
-    let n = c.args.name in
-    let bs = c.name_bytes-bytes.result in
-    let long : length bs ≡ 16 = ap length c.name_bytes-bytes.ensures.value ∙ length_spread 16 n in
-    let stop = front_stop bs c.loop-i.i (omega arith) c.if-bytes-i-eq0.true in
-    let inv = c.loop-i.invariant in
-    let value : c.loop-i.i ≡ front (spread 16 n) = sym (inv ∙ omega arith) ∙ ap front c.name_bytes-bytes.ensures.value in
-    let small : n < 256 ^ 16 = omega arith in
-    record { value = value; law = λ bs u e. value ∙ sizes n small bs u e }
-
-pub loop-i-preserved : goal.loop-i-preserved
-loop-i-preserved c =
-    let bs = c.name_bytes-bytes.result in
-    let long : length bs ≡ 16 = ap length c.name_bytes-bytes.ensures.value ∙ length_spread 16 c.args.name in
-    let step = front_step bs c.loop-i.i (omega arith) c.if-bytes-i-eq0.false in
-    let inv = c.loop-i.invariant in
-    omega (arith, inv)
 
 pub returns : goal.returns
 returns c =
     let n = c.args.name in
-    let bs = c.name_bytes-bytes.result in
-    let long : length bs ≡ 16 = ap length c.name_bytes-bytes.ensures.value ∙ length_spread 16 n in
-    let none : front (drop c.loop-i.i bs) ≡ 0 = at_drop_all front bs c.loop-i.i (omega arith) in
-    let inv = c.loop-i.invariant in
-    let end : c.loop-i.i ≡ 16 = omega arith in
-    let value : ◌≡◌ {A = ℕ} 16 (front (spread 16 n)) = sym (inv ∙ omega arith) ∙ ap front c.name_bytes-bytes.ensures.value in
+    let zero : c.position.result ≡ position (λ b. eqb b 0) (spread 16 n) =
+    position_from_yields_List (λ b. eqb b 0) _ _ c.position.result c.position.ensures.ran (YieldsList-from_slice (spread 16 n) (cc)) (λ x b q k. search (rules, tests)) in
+    let value : c.unwrap_or.result ≡ front (spread 16 n) = c.unwrap_or.ensures ∙ ap (λ r. unwrap_or r 16) zero ∙ front_is (spread 16 n) 16 (length_spread 16 n) in
     let small : n < 256 ^ 16 = omega arith in
     record { value = value; law = λ bs u e. value ∙ sizes n small bs u e }

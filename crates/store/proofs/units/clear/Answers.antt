@@ -1,4 +1,4 @@
-use Rattle.std.proofs.Common.{◌≡◌, ℕ, Bool, true, false, cond, ◌&&◌, eqb, List, [], length, sym, refl, ap, ◌∙◌}
+use Rattle.std.proofs.Common.{◌≡◌, ℕ, Bool, true, false, cond, ◌&&◌, eqb, List, [], length, is_ok, sym, refl, ap, ◌∙◌}
 use Rattle.store.specs.Entries.{lawful}
 use Rattle.store.specs.Layout.{encode, decode, stored, written}
 use Rattle.store.specs.Numbers.{laid}
@@ -20,5 +20,5 @@ returns c =
     record {
       answer = c.write.ensures.answer;
       bytes = bytes;
-      law = no_units c.write.new.store (none_left c.args.store.now c.write.new.store c.write.result c.write.ensures.answer bytes (λ e. c.write.ensures.back e ∙ c.empty.ensures));
+      law = no_units c.write.new.store (none_left c.args.store.now c.write.new.store (is_ok c.write.result) c.write.ensures.answer bytes (λ e. c.write.ensures.back e ∙ c.empty.ensures));
     }
