@@ -1,7 +1,7 @@
 // The classes of tokens that the grammar tells apart.
 
 // One variant for each mark and keyword, then names, integers and core words by their number of parts or arguments.
-#[derive(Clone, Copy)]
+#[derive(Clone, Copy, PartialEq, Eq, Debug)]
 pub enum Class {
     Open,
     Close,

@@ -11,7 +11,7 @@ use super::symbol::{ModuleContext, Symbol, TypeContext};
 pub fn token(wanted: Class, c: Class) -> Option<&'static [Symbol]>
     ensures { shown result ≡ expand (Symbol.Token wanted) c }
 {
-    if c as u32 == wanted as u32 {
+    if c == wanted {
         Some(&[])
     } else {
         None

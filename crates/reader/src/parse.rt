@@ -23,7 +23,7 @@ use tokens::token::Token;
 pub const DEFAULT_RANK: u32 = 100;
 
 // What a text is read as.
-#[derive(Clone, Copy)]
+#[derive(Clone, Copy, PartialEq, Eq, Debug)]
 pub enum Start {
     Unit,
     Signature,
@@ -44,7 +44,7 @@ impl Start {
 fn is_rank_value(symbol: Symbol) -> bool
     ensures { result ≡ is_rank_value symbol }
 {
-    symbol.number() == Symbol::RankValue.number()
+    symbol == Symbol::RankValue
 }
 
 // The rank known after a token that was read for a symbol. Linear in the token.

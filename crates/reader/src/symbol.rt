@@ -5,7 +5,7 @@ ghost use Rattle.reader.specs.Codes.{symbol_number, symbol_at};
 use crate::class::Class;
 
 // What follows a type.
-#[derive(Clone, Copy)]
+#[derive(Clone, Copy, PartialEq, Eq, Debug)]
 pub enum TypeContext {
     Items,
     Specs,
@@ -14,13 +14,13 @@ pub enum TypeContext {
 }
 
 // What follows a module.
-#[derive(Clone, Copy)]
+#[derive(Clone, Copy, PartialEq, Eq, Debug)]
 pub enum ModuleContext {
     Items,
     Bracketed,
 }
 
-#[derive(Clone, Copy)]
+#[derive(Clone, Copy, PartialEq, Eq, Debug)]
 pub enum Symbol {
     Token(Class),
     Unit,
