@@ -80,7 +80,7 @@ pub fn parse<C: Core>(
     let mut rank = DEFAULT_RANK;
     let mut from = 0;
     'tokens: while let Some(found) = next(text, from)? {
-        let symbol = Symbol::of_number(scratch[depth - 1]);
+        let symbol = Symbol::from(scratch[depth - 1]);
         let class = class_of(core, found.token);
         let Some(after) = expand(symbol, class) else {
             return Err(ReadFault::Syntax(found.place));
@@ -89,7 +89,7 @@ pub fn parse<C: Core>(
         depth = push_all(scratch, depth - 1, after);
         from = found.end;
     }
-    let last = Symbol::of_number(scratch[depth - 1]);
+    let last = Symbol::from(scratch[depth - 1]);
     match expand(last, Class::TextEnd) {
         Some(_) => Ok(rank),
         None => Err(ReadFault::Syntax(text.len())),

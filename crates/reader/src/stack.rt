@@ -14,7 +14,7 @@ pub fn push_all(words: &mut [u32], depth: usize, symbols: &[Symbol]) -> usize
     let mut left = symbols.len();
     'push: while left > 0 {
         left -= 1;
-        words[top] = symbols[left].number();
+        words[top] = u32::from(symbols[left]);
         top += 1;
     }
     top

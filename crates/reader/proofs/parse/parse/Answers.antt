@@ -78,15 +78,15 @@ returns-in_default-expand g c =
     renamed g.C.Core.words c.args.text.now (stack_of c.push_all-depth.new.words c.push_all-depth.result) (start_of c.args.start) (refused c.in-Some.found.place) e
     (refuses g.C.Core.words c.args.text.now (stack_of c.push_all-depth.new.words c.push_all-depth.result) c.tokens.scratch c.tokens.depth c.tokens.from c.tokens.rank
     i.3 i.2 i.0 (view c.in-Some.found.token) c.in-Some.found.place c.in-Some.found.end
-    c.of_number-symbol.result c.class_of-class.result (here g (goal.at.returns-in_default-expand g c).In-Some)
-    c.of_number-symbol.ensures c.class_of-class.ensures c.in_default-expand.ensures)
+    c.from-symbol.result c.class_of-class.result (here g (goal.at.returns-in_default-expand g c).In-Some)
+    c.from-symbol.ensures c.class_of-class.ensures c.in_default-expand.ensures)
 
 pub learned-rank-requires : goal.learned-rank-requires
 learned-rank-requires g c = found_proper c.args.text.now c.tokens.from c.in-Some.found.place c.in-Some.found.end (view c.in-Some.found.token) (here g (goal.at.learned-rank-requires g c).In-Some)
 
 pub push_all-depth-requires-in-Some : goal.push_all-depth-requires-in-Some
 push_all-depth-requires-in-Some g c =
-    let h = few c.of_number-symbol.result c.class_of-class.result c.in-Some-expand.after.now c.in-Some-expand.ensures in
+    let h = few c.from-symbol.result c.class_of-class.result c.in-Some-expand.after.now c.in-Some-expand.ensures in
     let i = c.tokens.invariant in
     omega (arith, c.requires, i.0, i.1, c.tokens.auto.scratch, c.push_all-depth.auto)
 
@@ -100,12 +100,12 @@ tokens-preserved g c =
     let i = c.tokens.invariant in
     let now = here g (goal.at.tokens-preserved g c).In-Some in
     let a = advance c.args.text.now c.tokens.from c.in-Some.found.place c.in-Some.found.end (view c.in-Some.found.token) now in
-    let h = few c.of_number-symbol.result c.class_of-class.result c.in-Some-expand.after.now c.in-Some-expand.ensures in
+    let h = few c.from-symbol.result c.class_of-class.result c.in-Some-expand.after.now c.in-Some-expand.ensures in
     let s = next_turn g.C.Core.words c.args.text.now (stack_of c.push_all-depth.new.words c.push_all-depth.result) c.tokens.scratch c.tokens.depth c.tokens.from c.tokens.rank
     i.3 i.2 i.0 (view c.in-Some.found.token) c.in-Some.found.place c.in-Some.found.end
-    c.of_number-symbol.result c.class_of-class.result c.in-Some-expand.after.now
+    c.from-symbol.result c.class_of-class.result c.in-Some-expand.after.now
     c.push_all-depth-in-Some.new.words c.push_all-depth-in-Some.result c.learned-rank.result
-    now c.of_number-symbol.ensures c.class_of-class.ensures c.in-Some-expand.ensures
+    now c.from-symbol.ensures c.class_of-class.ensures c.in-Some-expand.ensures
     c.push_all-depth-in-Some.ensures.stack (c.learned-rank.ensures g.C.Core.words) in
     (a.inside, omega (arith, h, a.forward, i.1, i.2, c.push_all-depth-in-Some.ensures.depth), sealed_deep c.push_all-depth-in-Some.new.words c.push_all-depth-in-Some.result s.closed, s)
 
@@ -116,8 +116,8 @@ returns-in-Some-expand-2 g c =
     let done = sym c.in_ok-found.ensures ∙ ap (λ o. told (Ok o)) c.in_default.is in
     renamed g.C.Core.words c.args.text.now (stack_of c.push_all-depth.new.words c.push_all-depth.result) (start_of c.args.start) (accepted c.tokens.rank) e
     (at_the_end g.C.Core.words c.args.text.now (stack_of c.push_all-depth.new.words c.push_all-depth.result) c.tokens.scratch c.tokens.depth c.tokens.from c.tokens.rank
-    i.3 i.2 i.0 c.of_number-last.result (Some c.in-Some-expand-2.field-0.now) done
-    c.of_number-last.ensures c.in-Some-expand-2.ensures)
+    i.3 i.2 i.0 c.from-last.result (Some c.in-Some-expand-2.field-0.now) done
+    c.from-last.ensures c.in-Some-expand-2.ensures)
 
 pub returns-in-None : goal.returns-in-None
 returns-in-None g c =
@@ -126,5 +126,5 @@ returns-in-None g c =
     let done = sym c.in_ok-found.ensures ∙ ap (λ o. told (Ok o)) c.in_default.is in
     renamed g.C.Core.words c.args.text.now (stack_of c.push_all-depth.new.words c.push_all-depth.result) (start_of c.args.start) (refused (length c.args.text.now)) e
     (at_the_end g.C.Core.words c.args.text.now (stack_of c.push_all-depth.new.words c.push_all-depth.result) c.tokens.scratch c.tokens.depth c.tokens.from c.tokens.rank
-    i.3 i.2 i.0 c.of_number-last.result None done
-    c.of_number-last.ensures c.in-None.ensures)
+    i.3 i.2 i.0 c.from-last.result None done
+    c.from-last.ensures c.in-None.ensures)

@@ -18,9 +18,9 @@ pub push-preserved : goal.push-preserved
 push-preserved c = (
   omega arith,
   omega arith,
-  push_more c.push.words c.args.symbols.now _ c.push.top c.push.left c.number.result
+  push_more c.push.words c.args.symbols.now _ c.push.top c.push.left c.from.result
       (omega arith) c.push-test.true c.push.invariant.1
-      (ap symbol_at c.number.ensures ∙ symbol_back _) c.push.invariant.2,
+      (ap symbol_at c.from.ensures ∙ symbol_back _) c.push.invariant.2,
 )
 
 pub returns : goal.returns
