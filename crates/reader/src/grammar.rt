@@ -11,11 +11,7 @@ use super::symbol::{ModuleContext, Symbol, TypeContext};
 pub fn token(wanted: Class, c: Class) -> Option<&'static [Symbol]>
     ensures { shown result ≡ expand (Symbol.Token wanted) c }
 {
-    if c == wanted {
-        Some(&[])
-    } else {
-        None
-    }
+    if c == wanted { Some(&[]) } else { None }
 }
 
 // `module U = struct` items `end` and the unit's end

@@ -191,6 +191,9 @@ impl From<u32> for Symbol {
     ghost from_gives = { λ n symbol. symbol ≡ symbol_at n };
 
     fn from(n: u32) -> Symbol {
-        SYMBOLS.get(n as usize).copied().unwrap_or(Symbol::Token(Class::Open))
+        SYMBOLS
+            .get(n as usize)
+            .copied()
+            .unwrap_or(Symbol::Token(Class::Open))
     }
 }
