@@ -1,16 +1,17 @@
 // The grammar's table: each symbol is read by its own function.
 ghost use Rattle.std.specs.Prelude.{◌≡◌};
 ghost use Rattle.reader.specs.Grammar.{expand as expansion};
-ghost use Rattle.reader.specs.View.{shown};
+ghost use Rattle.reader.specs.View.{row_of};
 
 use super::class::Class;
+use super::grammar::Row;
 use super::symbol::Symbol;
 use super::{grammar, type_grammar};
 
 // What has to follow a token of this class where this symbol is to be read; None where the symbol cannot begin so.
 // Constant time.
-pub fn expand(symbol: Symbol, c: Class) -> Option<&'static [Symbol]>
-    ensures { shown result ≡ expansion symbol c }
+pub fn expand(symbol: Symbol, c: Class) -> Option<Row>
+    ensures { row_of result ≡ expansion symbol c }
 {
     match symbol {
         Symbol::Token(wanted) => grammar::token(wanted, c),

@@ -1,4 +1,4 @@
-use Rattle.std.proofs.Common.{◌≡◌, ℕ, ◌≤◌, true, List, [], ◌++◌, length, Err, sym, refl, ap, ◌∙◌, arith, length-append}
+use Rattle.std.proofs.Common.{◌≡◌, ℕ, ◌≤◌, true, List, [], ◌++◌, length, Some, Err, sym, refl, ap, ◌∙◌, arith, length-append}
 use Rattle.std.proofs.lemmas.Result.{err_from_is_err_and}
 use Rattle.tokens.proofs.Walk.{advance}
 use Rattle.tokens.proofs.Turns.{Turn, turn, turn_fault, turn_end}
@@ -78,26 +78,27 @@ learned-rank-requires g c = found_proper c.args.text.now c.tokens.found-iterator
 pub push_all-requires-in-tokens : goal.push_all-requires-in-tokens
 push_all-requires-in-tokens g c =
     let i = c.tokens.invariant in
-    let h = few c.pop-symbol.result c.class_of-class.result c.in-Some-expand.after.now c.in-Some-expand.ensures in
+    let h = few c.pop-symbol.result c.class_of-class.result c.in-Some-expand.after.items c.in-Some-expand.ensures in
     let popped = ap (λ (v : Stacked). length v.symbols) c.pop-symbol.ensures in
     omega (arith, h, popped, ap (λ (v : Stacked). v.room) c.pop-symbol.ensures, i.room, i.few, i.inside, c.requires.text_len_bound)
 
 pub tokens-preserved : goal.tokens-preserved
 tokens-preserved g c =
     let i = c.tokens.invariant in
+    let row = ap Some c.deref.ensures.0 ∙ c.in-Some-expand.ensures in
     let t = here g (goal.at.tokens-preserved g c).In_ok-found in
     let a = advance c.args.text.now c.tokens.found-iterator.from c.in_ok-found.found.place c.in_ok-found.found.end (view c.in_ok-found.found.token) t.next in
-    let h = few c.pop-symbol.result c.class_of-class.result c.in-Some-expand.after.now c.in-Some-expand.ensures in
+    let h = few c.pop-symbol.result c.class_of-class.result c.deref.result.now row in
     let popped = ap (λ (v : Stacked). length v.symbols) c.pop-symbol.ensures in
     let pushed = ap (λ (v : Stacked). length v.symbols) c.push_all-in-tokens.ensures in
     record {
       same_text = t.same_text;
       inside = omega (arith, t.behind, a.inside);
       room = ap (λ (v : Stacked). v.room) c.push_all-in-tokens.ensures ∙ sym (ap (λ (v : Stacked). v.room) c.pop-symbol.ensures) ∙ i.room;
-      few = omega (arith, h, popped, pushed, length-append c.in-Some-expand.after.now c.pop-symbol.new.self.symbols, i.few, t.behind, a.forward);
+      few = omega (arith, h, popped, pushed, length-append c.deref.result.now c.pop-symbol.new.self.symbols, i.few, t.behind, a.forward);
       goes_on =
           rw t.behind (next_turn _ _ _ _ _ _ _ _ i.goes_on i.inside c.pop-symbol.ensures _ _ _ _ _ _ _ t.next c.class_of-class.ensures
-          c.in-Some-expand.ensures c.push_all-in-tokens.ensures (c.learned-rank.ensures g.C.Core.words));
+          row c.push_all-in-tokens.ensures (c.learned-rank.ensures g.C.Core.words));
     }
 
 pub returns-in-Some-expand-2 : goal.returns-in-Some-expand-2
