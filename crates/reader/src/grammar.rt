@@ -41,15 +41,6 @@ pub fn unit(c: Class) -> Option<Row>
     }
 }
 
-pub fn unit_name(c: Class) -> Option<Row>
-    ensures { row_of result ≡ expand Symbol.UnitName c }
-{
-    match c {
-        Class::Upper => Some(Row::new()),
-        _ => None,
-    }
-}
-
 // the text's end, or `[@@ rank n ]` before it
 pub fn unit_end(c: Class) -> Option<Row>
     ensures { row_of result ≡ expand Symbol.UnitEnd c }
@@ -62,15 +53,6 @@ pub fn unit_end(c: Class) -> Option<Row>
             Symbol::Token(Class::CloseAttribute),
             Symbol::Token(Class::TextEnd),
         ])),
-        _ => None,
-    }
-}
-
-pub fn rank_value(c: Class) -> Option<Row>
-    ensures { row_of result ≡ expand Symbol.RankValue c }
-{
-    match c {
-        Class::SmallInteger => Some(Row::new()),
         _ => None,
     }
 }
@@ -207,19 +189,9 @@ pub fn module_end(c: Class) -> Option<Row>
     }
 }
 
-// the path of an application and its `)`
+// the path of an application and its `)`, or its rest behind a dot
 pub fn argument(c: Class) -> Option<Row>
     ensures { row_of result ≡ expand Symbol.Argument c }
-{
-    match c {
-        Class::Upper => Some(row(&[Symbol::ArgumentEnd])),
-        _ => None,
-    }
-}
-
-// a name, behind a dot of an application's path
-pub fn argument_name(c: Class) -> Option<Row>
-    ensures { row_of result ≡ expand Symbol.ArgumentName c }
 {
     match c {
         Class::Upper => Some(row(&[Symbol::ArgumentEnd])),
