@@ -110,7 +110,7 @@ fn survey_all<C: Core>(
         depth = push_frames(
             frames,
             depth - 1,
-            after,
+            &after,
             rules_of(symbol, class),
             frame,
             place,
