@@ -27,7 +27,7 @@ pub use picking::{pick, ready};
 pub const MOST: usize = 16;
 
 /// A unit as the load order sees it. Units go by their places in a slice, from 0.
-#[derive(Clone, Copy)]
+#[derive(Clone, Copy, PartialEq, Eq, Debug)]
 pub struct Unit<'a> {
     pub rank: u8,
     pub name: &'a [u8],
