@@ -1,9 +1,13 @@
 -- Chains of iterators that keep the better of the best so far and the next.
-use Rattle.std.proofs.Common.{◌≡◌, ℕ, zero, suc, ◌+◌, ◌<◌, Bool, true, false, cond, List, [], ◌∷◌, length, get_or, map, Some, None, Option, sym, refl, ap, ◌∙◌, subst, ap₂, add-one, arith}
+use Rattle.std.proofs.Common.{◌≡◌, ℕ, zero, suc, ◌+◌, ◌<◌, ◌≤◌, Bool, true, false, cond, List, [], ◌∷◌, length, get_or, map, Some, None, Option, sym, refl, ap, ◌∙◌, subst, ap₂, ⊎_elim, add-one, arith}
+use Rattle.std.specs.Array.{MapsFrom}
 use Rattle.std.specs.Fn.{Called}
-use Rattle.std.specs.Iterator.{ActsAsOnTwo, FoldTurn, ReducesItems}
+use Rattle.std.specs.Iterator.{ActsAsOnTwo, FoldTurn, ReducesItems, FoldsItems}
 use Rattle.std.specs.List.{FoldsTo, fold, reduce, filter, range_with_len, enumerate_from}
 use Rattle.std.specs.Option.{option_map}
+use Rattle.std.proofs.iter.Yields.{gives_Drains}
+use Rattle.std.proofs.lemmas.Bool.{cases_eq}
+use Rattle.std.proofs.lemmas.List.{map-id}
 use Rattle.std.proofs.lemmas.Iterator.{YieldsList}
 use Rattle.std.proofs.lemmas.Iterator.Consumers.{reduce_from_yields_List}
 use denote.Param.Members.{Mut}
@@ -25,6 +29,37 @@ module _ {A F : Type 0} (g : Mut F (A × (A × Unit {0})) A) (h : A → A → A)
   reduce_from_chain s None ran e = reduce_from_yields_List h s None ran e
   reduce_from_chain s (Some y) ran e =
       reduce_from_yields_List h s (Some y) (ran.0, ran.1, ran.3, folds ran.1 (f, ran.0) (ran.2, y) refl ran.4) e
+
+-- ---- arrays made by such a closure
+
+module _ {A B F : Type 0} (g : Mut F (A × Unit {0}) B) (h : A → B) {f : F} (acts : (x : A) (y : B) (q : F) → Called g f (x, tt) y q → (q ≡ f) × (y ≡ h x)) where
+  pub at_map : (n i k : ℕ) (d : A) (e : B) (xs : List A) (ys : List B) (p : F) → p ≡ f → MapsFrom g p xs ys i n → i ≤ k → k < i + n
+      → get_or ys k e ≡ h (get_or xs k d)
+  at_map zero i k d e xs ys p s m l r = absurd (omega arith)
+  at_map (suc n) i k d e xs ys p s m l r =
+      let a = acts m.1 m.2 m.0 (subst (λ p. Called g p (m.1, tt) m.2 m.0) s m.5) in
+      ⊎_elim
+      (λ (t : k ≡ i). ap (λ k. get_or ys k e) t ∙ m.4.1 e ∙ a.1 ∙ ap h (sym (m.3.1 d)) ∙ ap (λ k. h (get_or xs k d)) (sym t))
+      (λ t. at_map n (i + 1) k d e xs ys m.0 a.0 m.6 (omega arith) (omega arith))
+      (cases_eq k i)
+
+-- ---- `fold` over a range, by what each call keeps
+
+module _ {C F : Type 0} (g : Mut F (C × (ℕ × Unit {0})) C) {f : F} (N : ℕ) (P : ℕ → C → Type 0)
+    (step : (k : ℕ) (a b : C) (q : F) → k < N → P k a → Called g f (a, (k, tt)) b q → P (k + 1) b × (q ≡ f)) where
+  steps_over : (n k : ℕ) (p q : F × C) → k + n ≡ N → p.0 ≡ f → P k p.1 → FoldsTo {P = F × C} (FoldTurn g) p (range_with_len k n) q → P N q.1
+  steps_over zero k p q e s h r =
+      let same : k ≡ N = omega arith in subst (λ n. P n q.1) same (subst (λ (p : F × C). P k p.1) r h)
+  steps_over (suc n) k p q e s h r =
+      let t = step k p.1 r.0.1 r.0.0 (omega arith) h (subst (λ f. Called g f (p.1, (k, tt)) r.0.1 r.0.0) s r.1) in
+      steps_over n (k + 1) r.0 q (omega arith) t.1 t.0 r.2
+
+  pub kept_over : {S : Type 0} {steps : S → Option ℕ → S → Type 0} (s : S) (a r : C) → P 0 a → FoldsItems steps g s f a r
+      → YieldsList steps (λ x. x) s (range_with_len 0 N) → P N r
+  kept_over {steps = steps} s a r h ran e =
+      steps_over N 0 (f, a) (ran.1, r) (omega arith) refl h
+      (subst (λ xs. FoldsTo {P = F × C} (FoldTurn g) (f, a) xs (ran.1, r))
+      (sym (map-id ran.0) ∙ gives_Drains steps (λ x. x) ran.0 (range_with_len 0 N) s e.runs ran.2) ran.3)
 
 -- ---- the best of the marked places is the least
 

@@ -1,5 +1,5 @@
 -- The least of the marked places.
-use Rattle.std.proofs.Common.{◌≡◌, ℕ, zero, suc, ◌+◌, ◌<◌, Bool, true, false, cond, ◌⊎◌, IfSome, Some, None, Option, sym, refl, ap, ◌∙◌, subst, inl, inr, ⊎_elim, add-one, arith}
+use Rattle.std.proofs.Common.{◌≡◌, ℕ, zero, suc, ◌+◌, ◌<◌, Bool, true, false, cond, ◌⊎◌, IfSome, Some, None, Option, sym, refl, ap, ◌∙◌, subst, ap₂, inl, inr, ⊎_elim, add-one, arith}
 use Rattle.std.specs.Option.{option_map}
 use Rattle.std.proofs.lemmas.Bool.{cases_eq, both_ways}
 use Rattle.order.specs.Units.{Units}
@@ -77,3 +77,9 @@ best_within mark before (suc n) = within (best mark before n) (best_within mark 
 pub found_mapped : (u : Units) (n : ℕ) (o : Option ℕ) → IfSome o (λ i. i < n) → IfSome (option_map (tuple u) o) (λ t. t.1 < n)
 found_mapped u n None h = tt
 found_mapped u n (Some i) h = h
+
+-- where two tests agree below n, their least is the same
+pub best_same : (mark other : ℕ → Bool) (before : ℕ → ℕ → Bool) (n : ℕ) → ((i : ℕ) → i < n → mark i ≡ other i) → best mark before n ≡ best other before n
+best_same mark other before zero h = refl
+best_same mark other before (suc n) h =
+    ap₂ (λ b o. kept before b n o) (h n (omega arith)) (best_same mark other before n (λ i l. h i (omega arith)))

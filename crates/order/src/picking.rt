@@ -20,10 +20,12 @@ fn beyond(marks: u16, count: usize) -> bool
 
 /// Whether the unit at a place names a unit that is not stored. A few steps.
 pub(crate) fn lacks(units: &[Unit<'_>], i: usize) -> bool
-    requires { i < length units.now }
     ensures { result ≡ (seen units.now).lacks i }
 {
-    units[i].misses || beyond(units[i].needs, units.len())
+    match units.get(i) {
+        Some(unit) => unit.misses || beyond(unit.needs, units.len()),
+        None => false,
+    }
 }
 
 /// Whether all units that the unit at a place names are placed. A few steps.
