@@ -1,11 +1,10 @@
 -- The least of the marked places.
-use Rattle.std.proofs.Common.{◌≡◌, ℕ, zero, suc, ◌+◌, ◌<◌, Bool, true, false, cond, ◌⊎◌, IfSome, Some, None, Option, sym, refl, ap, ◌∙◌, subst, inl, inr, ⊎_elim, add-one, arith}
+use Rattle.std.proofs.Common.{◌≡◌, ℕ, zero, suc, ◌+◌, ◌<◌, Bool, true, false, cond, ◌⊎◌, IfSome, Some, None, Option, sym, refl, ap, ◌∙◌, subst, ap₂, inl, inr, ⊎_elim, add-one, arith}
 use Rattle.std.specs.Option.{option_map}
 use Rattle.std.proofs.lemmas.Bool.{cases_eq, both_ways}
 use Rattle.order.specs.Units.{Units}
-use Rattle.order.specs.Compare.{tuple, earlier}
+use Rattle.order.specs.Compare.{tuple}
 use Rattle.order.specs.Least.{kept, best}
-use Rattle.order.specs.Picking.{lesser_tuple}
 
 -- ---- as a loop goes on
 
@@ -15,15 +14,6 @@ module _ (mark : ℕ → Bool) (before : ℕ → ℕ → Bool) where
 
   pub best_keeps : (i : ℕ) → mark i ≡ true → kept before true i (best mark before i) ≡ best mark before (i + 1)
   best_keeps i h = ap (λ b. kept before b i (best mark before i)) (sym h) ∙ ap (best mark before) (sym (add-one i))
-
-tuple_of : (u : Units) (i j : ℕ) (b : Bool) → Some (cond b (tuple u i) (tuple u j)) ≡ option_map (tuple u) (Some (cond b i j))
-tuple_of u i j true = refl
-tuple_of u i j false = refl
-
-pub lesser_kept : (u : Units) (i : ℕ) (o : Option ℕ)
-    → lesser_tuple u (option_map (tuple u) o) (tuple u i) ≡ option_map (tuple u) (kept (earlier u) true i o)
-lesser_kept u i None = refl
-lesser_kept u i (Some j) = tuple_of u i j (earlier u i j)
 
 -- ---- what the least is
 
@@ -87,3 +77,9 @@ best_within mark before (suc n) = within (best mark before n) (best_within mark 
 pub found_mapped : (u : Units) (n : ℕ) (o : Option ℕ) → IfSome o (λ i. i < n) → IfSome (option_map (tuple u) o) (λ t. t.1 < n)
 found_mapped u n None h = tt
 found_mapped u n (Some i) h = h
+
+-- where two tests agree below n, their least is the same
+pub best_same : (mark other : ℕ → Bool) (before : ℕ → ℕ → Bool) (n : ℕ) → ((i : ℕ) → i < n → mark i ≡ other i) → best mark before n ≡ best other before n
+best_same mark other before zero h = refl
+best_same mark other before (suc n) h =
+    ap₂ (λ b o. kept before b n o) (h n (omega arith)) (best_same mark other before n (λ i l. h i (omega arith)))

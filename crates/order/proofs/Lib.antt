@@ -1,5 +1,6 @@
 -- Lemmas, grouped by the definitions that they are about.
 pub mod Bit
+pub mod Chains
 pub mod Comparing
 pub mod Placed
 pub mod LeastOf

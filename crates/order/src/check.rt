@@ -1,25 +1,32 @@
 //! Missing units, and units that reach themselves by naming.
 
-ghost use Rattle.std.specs.Prelude.{◌≡◌, ℕ, ◌<◌, ◌≤◌, true, length, slice_index};
+ghost use Rattle.std.specs.Prelude.{◌≡◌, ℕ, ◌<◌, Bool, length, slice_index, slice_index_or};
 ghost use Rattle.order.specs.Compare.{by_name};
-ghost use Rattle.order.specs.Least.{kept};
+ghost use Rattle.order.specs.Least.{best};
 ghost use Rattle.order.specs.Reaching.{missing as missing_of, cycle as cycle_of};
 ghost use Rattle.order.specs.Rows.{joined, Rows};
-ghost use Rattle.order.specs.Seen.{bit, seen};
+ghost use Rattle.order.specs.Seen.{bit, seen, nobody};
 
 use crate::Unit;
 use crate::compare::name_before;
+use crate::few::Few;
 use crate::marks::has;
 use crate::picking::lacks;
+use std::array::from_fn;
 
-/// The one of two units that comes first by name; the second alone where there is no first.
-fn lesser_named(units: &[Unit<'_>], least: Option<usize>, i: usize) -> Option<usize>
-    ensures { result ≡ kept (by_name (seen units.now)) true i least }
+/// The least-named unit that passes a test. A test for each unit, and for each that passes a step for each byte of
+/// its name.
+fn least_named<F: Fn(usize) -> bool>(units: &[Unit<'_>], passes: F) -> Option<usize>
+    requires { F.IsAlwaysCallable passes }
+    ensures { (mark : ℕ → Bool) → ((i : ℕ) (b : Bool) → F.post passes i b → b ≡ mark i) → result ≡ best mark (by_name (seen units.now)) (length units.now) }
 {
-    match least {
-        Some(j) if !name_before(units, i, j) => least,
-        _ => Some(i),
-    }
+    (0..units.len())
+        .filter(|&i| passes(i))
+        .reduce(|least, i| if name_before(units, i, least) {
+            i
+        } else {
+            least
+        })
 }
 
 /// The least-named unit that names one that is not stored. A few steps for each unit, and for each such one a step
@@ -27,56 +34,49 @@ fn lesser_named(units: &[Unit<'_>], least: Option<usize>, i: usize) -> Option<us
 pub(crate) fn missing(units: &[Unit<'_>]) -> Option<usize>
     ensures { result ≡ missing_of (seen units.now) }
 {
-    let mut least = None;
-    for i in 0..units.len() {
-        if lacks(units, i) {
-            least = lesser_named(units, least, i);
-        }
+    least_named(units, |i| lacks(units, i))
+}
+
+/// What the unit at a place names, nothing where there is none.
+fn needs(units: &[Unit<'_>], i: usize) -> u16
+    ensures { result ≡ (slice_index_or units.now i nobody).needs }
+{
+    match units.get(i) {
+        Some(unit) => unit.needs,
+        None => 0,
     }
-    least
+}
+
+/// What each unit names. A step for each of 16 places.
+fn all_needs(units: &[Unit<'_>]) -> [u16; 16]
+    ensures { (i : ℕ) → i < 16 → slice_index result i ≡ (slice_index_or units.now i nobody).needs }
+{
+    from_fn(|i| needs(units, i))
 }
 
 /// What each unit reaches, once each that reaches the unit at `k` reaches all that this one does too. 16 steps.
-fn through(mut rows: [u16; 16], k: usize) -> [u16; 16]
+fn through(rows: [u16; 16], k: usize) -> [u16; 16]
     requires { k < 16 }
     ensures { (i j : ℕ) → i < 16 → bit (slice_index result i) j ≡ joined rows k i j }
 {
     let onward = rows[k];
-    for i in 0..16 {
-        if has(rows[i], k) {
-            rows[i] |= onward;
-        }
-    }
-    rows
+    rows.map(|row| if has(row, k) { row | onward } else { row })
 }
 
-/// What each unit reaches by naming. 16 steps for each unit.
-fn reached(units: &[Unit<'_>]) -> [u16; 16]
-    requires { length units.now ≤ 16 }
-    ensures { Rows (seen units.now) (length units.now) result }
-{
-    let mut rows = [0u16; 16];
-    for i in 0..units.len() {
-        rows[i] = units[i].needs;
+impl Few<'_> {
+    /// What each unit reaches by naming. 16 steps for each unit.
+    fn reached(self) -> [u16; 16]
+        ensures { Rows (seen self.entry.units.now) (length self.entry.units.now) result }
+    {
+        (0..self.units.len()).fold(all_needs(self.units), through)
     }
-    for k in 0..units.len() {
-        rows = through(rows, k);
-    }
-    rows
-}
 
-/// The least-named unit that reaches itself by naming. At most some 300 steps, and for each such unit a step for
-/// each byte of its name.
-pub(crate) fn cycle(units: &[Unit<'_>]) -> Option<usize>
-    requires { length units.now ≤ 16 }
-    ensures { result ≡ cycle_of (seen units.now) }
-{
-    let rows = reached(units);
-    let mut least = None;
-    for i in 0..units.len() {
-        if has(rows[i], i) {
-            least = lesser_named(units, least, i);
-        }
+    /// The least-named unit that reaches itself by naming. At most some 300 steps, and for each such unit a step for
+    /// each byte of its name.
+    pub(crate) fn cycle(self) -> Option<usize>
+        ensures { result ≡ cycle_of (seen self.entry.units.now) }
+    {
+        let rows = self.reached();
+        least_named(self.units, |i| rows.get(i).is_some_and(|&row| has(row, i)))
     }
-    least
 }

@@ -5,6 +5,7 @@
 
 mod check;
 mod compare;
+mod few;
 mod marks;
 mod picking;
 #[cfg(test)]
@@ -17,8 +18,9 @@ ghost use Rattle.order.specs.Picking.{load_order};
 ghost use Rattle.order.specs.Reaching.{missing as missing_of, cycle as cycle_of};
 ghost use Rattle.order.specs.Seen.{seen};
 
-use check::{cycle, missing};
+use check::missing;
 pub use compare::{before, compare_names};
+use few::Few;
 pub use marks::add_mark;
 use marks::with;
 pub use picking::{pick, ready};
@@ -27,7 +29,7 @@ pub use picking::{pick, ready};
 pub const MOST: usize = 16;
 
 /// A unit as the load order sees it. Units go by their places in a slice, from 0.
-#[derive(Clone, Copy)]
+#[derive(Clone, Copy, PartialEq, Eq, Debug)]
 pub struct Unit<'a> {
     pub rank: u8,
     pub name: &'a [u8],
@@ -69,55 +71,24 @@ impl Fault {
     }
 }
 
-/// The units in the order in which they are picked, until none is ready. For each unit a pick.
-fn in_turn(units: &[Unit<'_>]) -> Order
-    requires { length units.now ≤ 16 }
-    ensures { result ≡ order_of_places (load_order (seen units.now)) }
-{
-    let mut places = [0u8; 16];
-    let mut placed = 0u16;
-    for count in 0..units.len() {
-        let Some((_, place)) = pick(units, placed) else {
-            return Order { places, count };
-        };
-        places[count] = place as u8;
-        placed = with(placed, place);
-    }
-    Order {
-        places,
-        count: units.len(),
-    }
-}
-
-/// Asks for at most 16 units.
-fn few(units: &[Unit<'_>]) -> Result<(), Fault>
-    ensures { result ≡ (if nat_lt 16 (length units.now) then Err Fault.TooMany else Ok tt) }
-{
-    if units.len() > MOST {
-        Err(Fault::TooMany)
-    } else {
-        Ok(())
-    }
-}
-
-/// Asks that every unit named is stored.
-fn stored(units: &[Unit<'_>]) -> Result<(), Fault>
-    ensures { result ≡ unless (missing_of (seen units.now)) Fault.Missing (Ok tt) }
-{
-    match missing(units) {
-        Some(i) => Err(Fault::Missing(i)),
-        None => Ok(()),
-    }
-}
-
-/// Asks that no unit reaches itself by naming.
-fn acyclic(units: &[Unit<'_>]) -> Result<(), Fault>
-    requires { length units.now ≤ 16 }
-    ensures { result ≡ unless (cycle_of (seen units.now)) Fault.Cycle (Ok tt) }
-{
-    match cycle(units) {
-        Some(i) => Err(Fault::Cycle(i)),
-        None => Ok(()),
+impl Few<'_> {
+    /// The units in the order in which they are picked, until none is ready. For each unit a pick.
+    fn in_turn(self) -> Order
+        ensures { result ≡ order_of_places (load_order (seen self.entry.units.now)) }
+    {
+        let mut places = [0u8; 16];
+        let mut placed = 0u16;
+        for count in 0..self.units.len() {
+            let Some((_, place)) = pick(self.units, placed) else {
+                return Order { places, count };
+            };
+            places[count] = place as u8;
+            placed = with(placed, place);
+        }
+        Order {
+            places,
+            count: self.units.len(),
+        }
     }
 }
 
@@ -129,8 +100,12 @@ pub fn arrange(units: &[Unit<'_>]) -> Result<Order, Fault>
     ensures exists { ExistsExactly }
     ensures fits { Fits (length units.now) result }
 {
-    few(units)?;
-    stored(units)?;
-    acyclic(units)?;
-    Ok(in_turn(units))
+    let few = Few::new(units)?;
+    if let Some(i) = missing(units) {
+        return Err(Fault::Missing(i));
+    }
+    if let Some(i) = few.cycle() {
+        return Err(Fault::Cycle(i));
+    }
+    Ok(few.in_turn())
 }

@@ -3,7 +3,7 @@
 ghost use Rattle.std.specs.Prelude.{◌≡◌, ◌/◌, ◌^◌, ◌<◌, not, length, IfSome, Decides, ◌==◌};
 ghost use Rattle.std.specs.Option.{option_map};
 ghost use Rattle.order.specs.Compare.{tuple};
-ghost use Rattle.order.specs.Picking.{Picked, Ready, named_placed, next, lesser_tuple};
+ghost use Rattle.order.specs.Picking.{Picked, Ready, named_placed, next};
 ghost use Rattle.order.specs.Picking.{ready as is_ready};
 ghost use Rattle.order.specs.Seen.{bit, seen};
 
@@ -20,10 +20,12 @@ fn beyond(marks: u16, count: usize) -> bool
 
 /// Whether the unit at a place names a unit that is not stored. A few steps.
 pub(crate) fn lacks(units: &[Unit<'_>], i: usize) -> bool
-    requires { i < length units.now }
     ensures { result ≡ (seen units.now).lacks i }
 {
-    units[i].misses || beyond(units[i].needs, units.len())
+    match units.get(i) {
+        Some(unit) => unit.misses || beyond(unit.needs, units.len()),
+        None => false,
+    }
 }
 
 /// Whether all units that the unit at a place names are placed. A few steps.
@@ -43,16 +45,6 @@ pub fn ready(units: &[Unit<'_>], placed: u16, i: usize) -> bool
     i < units.len() && !has(placed, i) && named_placed(units, placed, i)
 }
 
-/// The one of two tuples that comes first; the second alone where there is no first.
-fn lesser(units: &[Unit<'_>], least: Option<(u8, usize)>, found: (u8, usize)) -> Option<(u8, usize)>
-    ensures { result ≡ lesser_tuple (seen units.now) least found }
-{
-    match least {
-        Some(best) if !before(units, found, best) => least,
-        _ => Some(found),
-    }
-}
-
 /// The rank and the place of the next unit: of the units that are ready, the least by rank and then by name.
 /// A few steps for each unit, and for each ready one a step for each byte of its name.
 pub fn pick(units: &[Unit<'_>], placed: u16) -> Option<(u8, usize)>
@@ -60,11 +52,14 @@ pub fn pick(units: &[Unit<'_>], placed: u16) -> Option<(u8, usize)>
     ensures law { Picked (seen units.now) (bit placed) result }
     ensures within { IfSome result (λ t. t.1 < length units.now) }
 {
-    let mut least: Option<(u8, usize)> = None;
-    for (i, unit) in units.iter().enumerate() {
-        if ready(units, placed, i) {
-            least = lesser(units, least, (unit.rank, i));
-        }
-    }
-    least
+    units
+        .iter()
+        .enumerate()
+        .filter(|&(i, _)| ready(units, placed, i))
+        .map(|(i, unit)| (unit.rank, i))
+        .reduce(|best, found| if before(units, found, best) {
+            found
+        } else {
+            best
+        })
 }

@@ -1,9 +1,0 @@
-use Rattle.std.proofs.Common.{◌≡◌}
-use Rattle.order.specs.Compare.{by_name}
-use Rattle.order.specs.Least.{best}
-use Rattle.order.specs.Seen.{seen}
-use Rattle.order.proofs.check.missing.Given as goal
-
--- the least-named of those below i
-abbrev pub invariant-loop-i : goal.invariant-loop-i
-invariant-loop-i l = l.least ≡ best (seen l.units).lacks (by_name (seen l.units)) l.i
