@@ -1,6 +1,5 @@
-use Rattle.std.proofs.Common.{◌≡◌, ℕ, List, get_or, Some, None, Option, unwrap_or, sym, refl, ap, ◌∙◌, subst, ap₂}
+use Rattle.std.proofs.Common.{◌≡◌, ℕ, List, Some, None, Option, unwrap_or, sym, refl, ap, ◌∙◌, subst, ap₂}
 use Rattle.store.specs.declared.entry.Entry.{Entry}
-use Rattle.store.specs.Entries.{blank}
 use Rattle.store.specs.Layout.{stored}
 use Rattle.store.specs.Units.{units}
 use Rattle.project.specs.declared.fault.Question.TheVariants.{UnitMissing, Circle}
@@ -16,20 +15,19 @@ value_or (Some p) = refl
 
 pub returns-in-Missing : goal.returns-in-Missing
 returns-in-Missing g c =
-    let s = c.args.store.now in
+    let s = c.args.units.now.store.now in
     let ws = g.C.Core.words in
     let i = c.in-Missing.i in
     let text = (unit_at (units s) i).text in
     let f = c.text_named-found.result in
     let n : NamingOf (stored s) text (heads_of ws text) f =
-    subst (λ (t : List ℕ). NamingOf (stored s) t (heads_of ws t) f) c.text_at.ensures
-    (subst (λ (es : List Entry). NamingOf es c.text_at.result.now (heads_of ws c.text_at.result.now) f) c.requires.directory_value c.text_named-found.ensures) in
+    subst (λ (t : List ℕ). NamingOf (stored s) t (heads_of ws t) f) c.text.ensures c.text_named-found.ensures in
     let place : c.unwrap_or.result ≡ first_strange ws (units s) i = c.unwrap_or.ensures ∙ value_or f.missing ∙ ap place_or (named_missing ws s text f n).0 in
-    let name = ap (λ (e : Entry). e.name) (c.record_at.ensures ∙ ap (λ (es : List Entry). get_or es i blank) c.requires.directory_value) ∙ name_is s i in
+    let name = ap (λ (e : Entry). e.name) c.entry.ensures ∙ name_is s i in
     ap₂ (λ (m p : ℕ). about (Some m) (UnitMissing p)) name place ∙ sym (ap (order_fault ws (units s)) c.in-Missing.is)
 
 pub returns-in-Cycle : goal.returns-in-Cycle
 returns-in-Cycle g c =
-    ap (λ (n : ℕ). about (Some n) Circle)
-    (ap (λ (e : Entry). e.name) (c.record_at-in-Cycle.ensures ∙ ap (λ (es : List Entry). get_or es c.in-Cycle.i blank) c.requires.directory_value) ∙ name_is c.args.store.now c.in-Cycle.i)
-    ∙ sym (ap (order_fault g.C.Core.words (units c.args.store.now)) c.in-Cycle.is)
+    let s = c.args.units.now.store.now in
+    ap (λ (n : ℕ). about (Some n) Circle) (ap (λ (e : Entry). e.name) c.entry-in-Cycle.ensures ∙ name_is s c.in-Cycle.i)
+    ∙ sym (ap (order_fault g.C.Core.words (units s)) c.in-Cycle.is)
