@@ -69,9 +69,8 @@ impl Open {
     {
         lengths(store.len(), book.len(), None)?;
         let heading = read_unit(core, text, scratch)?;
-        put_text(store, text, heading.place, heading.name.len(), heading.rank).map_err(
-            |_| Question::Full,
-        )?;
+        let stored = put_text(store, text, heading.place, heading.name.len(), heading.rank);
+        stored.map_err(|_| Question::Full)?;
         self.recount(store);
         Ok(())
     }

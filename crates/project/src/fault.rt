@@ -61,6 +61,7 @@ pub enum Question<K> {
     Size(usize),
 }
 
+// A variant with fields has no number by a cast, so the numbers stand as the definition gives them, case by case; so do the places.
 impl<K: Copy> Question<K> {
     // The number of the question. Constant time.
     pub fn number(self) -> u8

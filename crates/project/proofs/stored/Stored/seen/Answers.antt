@@ -5,11 +5,11 @@ use Rattle.store.specs.Units.{units}
 use Rattle.project.specs.Loading.{heads_of, unit_at}
 use Rattle.project.specs.Naming.{NamingOf}
 use Rattle.project.proofs.Viewed.{named_needs, named_within, named_missing, rank_is}
-use Rattle.project.proofs.loading.unit_seen.Goals as goal
+use Rattle.project.proofs.stored.Stored.seen.Goals as goal
 
 pub returns : goal.returns
 returns g c =
-    let s = c.args.units.now.store.now in
+    let s = c.args.self.now.store.now in
     let ws = g.C.Core.words in
     let text = (unit_at (units s) c.args.i).text in
     let f = c.text_named-found.result in
