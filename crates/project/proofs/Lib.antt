@@ -5,3 +5,4 @@ pub mod Answered
 pub mod Register
 pub mod Naming
 pub mod Viewed
+pub mod Made

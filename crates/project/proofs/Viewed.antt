@@ -1,9 +1,10 @@
 -- What the code sees of stored units is what the definitions say of them.
-use Rattle.std.proofs.Common.{◌≡◌, ℕ, ◌+◌, ◌/◌, ◌%◌, ◌^◌, ◌<◌, ◌≤◌, Bool, true, false, cond, not, ◌||◌, eqb, ltb, List, [], ◌∷◌, length, get_or, take, is_some, Some, None, Option, sym, refl, ap, ◌∙◌, subst, ap₂, ⊎_elim, div-le_self, arith, shr-shr}
+use Rattle.std.proofs.Common.{◌≡◌, ℕ, ◌+◌, ◌/◌, ◌%◌, ◌^◌, ◌<◌, ◌≤◌, Bool, true, false, cond, not, ◌||◌, ◌&&◌, eqb, ltb, List, [], ◌∷◌, length, get_or, take, is_some, Some, None, Option, Ok, Err, Result, sym, refl, ap, ◌∙◌, subst, ap₂, ⊎_elim, div-le_self, arith, shr-shr}
 use mathlib.Core.Path.{fun_ext}
 use native.Mathlib.Nat.{zero-div}
 use Rattle.std.proofs.lemmas.List.{get_or_past, get_or-take, length-take-le}
-use Rattle.std.proofs.lemmas.Bool.{cases_lt, cases_eq, eq-eqb, ne_eqb, ltb-true, lt-ltb}
+use Rattle.std.specs.Result.{MatchResult}
+use Rattle.std.proofs.lemmas.Bool.{cases_lt, cases_eq, and_from, cond-true, eq-eqb, ne_eqb, ltb-true, lt-ltb}
 use Rattle.cores.specs.Meaning.{Word}
 use Rattle.store.specs.declared.entry.Entry.{Entry}
 use Rattle.store.specs.Entries.{blank, seat, found}
@@ -14,14 +15,19 @@ use Rattle.store.proofs.Lawful.{lawful_parts}
 use Rattle.store.proofs.Members.{once_units, seat_first, seat_only}
 use Rattle.order.specs.Answer.{arranged}
 use Rattle.order.specs.Seen.{bit, nobody, seen as view}
+use Rattle.order.specs.declared.Order.{Order}
+use Rattle.order.specs.declared.Fault.{Fault as Unarranged}
 use Rattle.order.specs.declared.Unit.{Unit as Seen}
 use Rattle.order.proofs.Bit.{bits_same, bit_past}
 use Rattle.project_rules.specs.Project.{some, first_where}
 use Rattle.project_rules.specs.Statements.{Agree}
 use Rattle.project_rules.proofs.Agreeing.{arranged_agrees}
 use Rattle.project.specs.declared.loading.Naming.{Naming as Named}
+use Rattle.project.specs.declared.fault.Fault.{Fault}
+use Rattle.project.specs.declared.fault.Question.TheVariants.{Lengths}
+use Rattle.project.specs.Faults.{without}
 use Rattle.project.specs.Calls.{stores}
-use Rattle.project.specs.Loading.{head_number, heads_of, is_number, is_stored, strange, unit_at, stored_view}
+use Rattle.project.specs.Loading.{head_number, heads_of, is_number, is_stored, strange, unit_at, stored_view, order_fault, or_order_fault, load_order}
 use Rattle.project.specs.Naming.{seat_of, is_seat, is_none, NamingOf, UnitSeen}
 use Rattle.project.proofs.Changing.{stores_is}
 
@@ -149,7 +155,7 @@ name_is s i =
     (cases_lt i (length (stored s)))
 
 -- a store has at most 16 records
-pub few_units : (s : List ℕ) → length (stored s) ≤ 16
+few_units : (s : List ℕ) → length (stored s) ≤ 16
 few_units s = (lawful_parts (stored s) (lawful_stored s)).0
 
 -- ---- all units
@@ -171,10 +177,23 @@ view_agrees ws s seen long all = record {
     or_no false = refl
 
 -- the units in a longer row, cut to their number
-pub view_of_front : (ws : List Word) (s : List ℕ) (row front : List Seen) (n : ℕ) → length row ≡ 16 → n ≡ length (stored s) → front ≡ take n row →
-    ((i : ℕ) → i < length (units s) → UnitSeen ws (units s) i (get_or row i nobody)) → arranged (view front) ≡ arranged (stored_view ws (units s))
-view_of_front ws s row front n long count is all =
+pub view_of_front : (ws : List Word) (s : List ℕ) (row : List Seen) (n : ℕ) → length row ≡ 16 → n ≡ length (stored s) →
+    ((i : ℕ) → i < 16 → UnitSeen ws (units s) i (get_or row i nobody)) → arranged (view (take n row)) ≡ arranged (stored_view ws (units s))
+view_of_front ws s row n long count all =
     let same = length_held (stored s) s in
-    let cut : length front ≡ length (units s) = ap length is ∙ length-take-le n row (omega (arith, few_units s)) ∙ omega arith in
-    arranged_agrees (view front) (stored_view ws (units s)) (view_agrees ws s front cut
-    (λ i l. subst (λ (u : Seen). UnitSeen ws (units s) i u) (sym (ap (λ (xs : List Seen). get_or xs i nobody) is ∙ get_or-take n row i nobody (omega arith))) (all i l)))
+    let few = few_units s in
+    let cut : length (take n row) ≡ length (units s) = length-take-le n row (omega arith) ∙ omega arith in
+    arranged_agrees (view (take n row)) (stored_view ws (units s)) (view_agrees ws s (take n row) cut
+    (λ i l. subst (λ (u : Seen). UnitSeen ws (units s) i u) (sym (get_or-take n row i nobody (omega arith))) (all i (omega arith))))
+
+-- the load order is told where it was found, and else the fault of the units
+pub order_told : {K : Type 0} (ws : List Word) (s : List ℕ) (room : ℕ) (a : Result Order Unarranged) (r : Result Order (Fault K)) → length s ≡ 65536 → room ≡ 65536 →
+    a ≡ arranged (stored_view ws (units s)) → MatchResult a (λ o. r ≡ Ok o) (λ e. r ≡ Err (order_fault ws (units s) e)) → r ≡ load_order ws s room
+order_told {K} ws s room a r long words is told =
+    go a told ∙ ap (or_order_fault ws (units s)) is
+    ∙ sym (cond-true (eqb (length s) 65536 && eqb room 65536) (or_order_fault {K = K} ws (units s) (arranged (stored_view ws (units s)))) (Err (without Lengths))
+    (and_from (eqb (length s) 65536) (eqb room 65536) (eq-eqb (length s) 65536 long) (eq-eqb room 65536 words)))
+  where
+    go : (b : Result Order Unarranged) → MatchResult b (λ o. r ≡ Ok o) (λ e. r ≡ Err (order_fault ws (units s) e)) → r ≡ or_order_fault ws (units s) b
+    go (Ok o) t = t
+    go (Err e) t = t

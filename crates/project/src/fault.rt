@@ -1,6 +1,6 @@
 // Why a call refuses: the question that got a no, and what is told beside its number.
 ghost use Rattle.std.specs.Prelude.{◌≡◌};
-ghost use Rattle.project.specs.Faults.{cause_number, question_number, question_place, question_component, reading_fault};
+ghost use Rattle.project.specs.Faults.{cause_number, question_number, question_place, question_component, reading_fault, without};
 
 use reader::fault::ReadFault;
 
@@ -8,13 +8,13 @@ use reader::fault::ReadFault;
 #[derive(Clone, Copy, PartialEq, Eq, Debug)]
 pub enum MatchCause {
     // a component is missing, or there only in another sort
-    Missing,
+    Missing = 1,
     // a value has another type
-    Value,
+    Value = 2,
     // a defined type is another one
-    Definition,
+    Definition = 3,
     // one is a functor, the other is none
-    Form,
+    Form = 4,
 }
 
 impl MatchCause {
@@ -22,12 +22,7 @@ impl MatchCause {
     pub fn number(self) -> u8
         ensures { result ≡ cause_number self }
     {
-        match self {
-            MatchCause::Missing => 1,
-            MatchCause::Value => 2,
-            MatchCause::Definition => 3,
-            MatchCause::Form => 4,
-        }
+        self as u8
     }
 }
 
@@ -66,6 +61,7 @@ pub enum Question<K> {
     Size(usize),
 }
 
+// A variant with fields has no number by a cast, so the numbers stand as the definition gives them, case by case; so do the places.
 impl<K: Copy> Question<K> {
     // The number of the question. Constant time.
     pub fn number(self) -> u8
@@ -131,9 +127,17 @@ pub struct Fault<K> {
     pub question: Question<K>,
 }
 
-// The cause of a call that asks no core: there is none.
-#[derive(Clone, Copy)]
-pub enum NoCause {}
+// A refusal that is about no unit.
+impl<K> From<Question<K>> for Fault<K> {
+    ghost from_gives = { λ q r. r ≡ without q };
+
+    fn from(question: Question<K>) -> Fault<K> {
+        Fault {
+            unit: None,
+            question,
+        }
+    }
+}
 
 // What reading refuses, put refuses.
 impl<K> From<ReadFault> for Fault<K> {
@@ -148,9 +152,6 @@ impl<K> From<ReadFault> for Fault<K> {
             ReadFault::Redeclared(p) => Question::DeclaredTwice(p),
             ReadFault::Undeclared(p) => Question::Undeclared(p),
         };
-        Fault {
-            unit: None,
-            question,
-        }
+        question.into()
     }
 }

@@ -5,3 +5,4 @@ pub mod calls;
 pub mod fault;
 pub mod loading;
 pub mod state;
+mod stored;

@@ -1,7 +1,0 @@
-use Rattle.std.proofs.Common.{sym, ap}
-use Rattle.store.specs.Units.{StoredUnit, units, no_unit}
-use Rattle.std.proofs.lemmas.List.{get_or_past}
-use Rattle.project.proofs.loading.text_at.Goals as goal
-
-pub returns-in-None : goal.returns-in-None
-returns-in-None c = sym (ap (λ (u : StoredUnit). u.text) (get_or_past (units c.args.store.now) c.args.i no_unit c.in-None.ensures))
