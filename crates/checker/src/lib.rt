@@ -11,71 +11,51 @@ ghost use Rattle.checker.specs.Statements.{PathsLeadAlike, RefusalsMean, Numbers
 use cores::interface::Core;
 
 // The samples over mini-ML are answered as they should be: each fault, and each cause.
-pub fn samples_stand() -> u8
+pub fn samples_stand()
     ensures { CheckSamples × FitSamples }
-{
-    0
-}
+{}
 
 // Sizes are refused one past their limits and not at them.
-pub fn limits_stand() -> u8
+pub fn limits_stand()
     ensures { LimitSamples }
-{
-    0
-}
+{}
 
 // A refused match tells the first component that fails, in the order of the signature wanted, and why.
-pub fn first_failure_is_told() -> u8
+pub fn first_failure_is_told()
     ensures { FirstFailure }
-{
-    0
-}
+{}
 
 // A signature matches itself.
-pub fn signature_matches_itself() -> u8
+pub fn signature_matches_itself()
     ensures { MatchesItself }
-{
-    0
-}
+{}
 
 // A path leads in a scope where it leads in the environment for which the scope stands.
-pub fn paths_lead_alike() -> u8
+pub fn paths_lead_alike()
     ensures { PathsLeadAlike }
-{
-    0
-}
+{}
 
 // Where the core refuses numbered types, it refuses the normal forms for which they stand.
-pub fn refusals_mean<C: Core>(_core: &C) -> u8
+pub fn refusals_mean<C: Core>(_core: &C)
     ensures { RefusalsMean C.Core.rule }
-{
-    0
-}
+{}
 
 // The number of an abstract type is the place of its component in the row of words.
-pub fn numbers_are_places<C: Core>(_core: &C) -> u8
+pub fn numbers_are_places<C: Core>(_core: &C)
     ensures { NumbersArePlaces C.Core.rule }
-{
-    0
-}
+{}
 
 // Accepted units have signatures derived without the sixth rule, for which the checker's stand; refused ones, if not by size, have none.
-pub fn check_decides<C: Core>(_core: &C) -> u8
+pub fn check_decides<C: Core>(_core: &C)
     ensures { CheckDecides C.Core.rule }
-{
-    0
-}
+{}
 
 // A check that does not answer size accepts exactly when the six rules derive signatures for all units.
-pub fn acceptance_law<C: Core>(_core: &C) -> u8
+pub fn acceptance_law<C: Core>(_core: &C)
     ensures { AcceptanceLaw C.Core.rule }
-{
-    0
-}
+{}
 
 // Fit, if it does not answer size, says yes exactly of the signatures that the six rules derive for the unit.
-pub fn fit_law<C: Core>(_core: &C) -> u8
+pub fn fit_law<C: Core>(_core: &C)
     ensures { FitLaw C.Core.rule }
-{
-    0
-}
+{}

@@ -12,174 +12,128 @@ use cores::interface::Core;
 use cores::mini_ml::MiniMl;
 
 // A type whose paths lead to types has exactly one normal form.
-pub fn normal_forms_exist() -> u8
+pub fn normal_forms_exist()
     ensures { NormalFormsExist }
-{
-    0
-}
+{}
 
 // A sound signature matches itself.
-pub fn matching_is_reflexive() -> u8
+pub fn matching_is_reflexive()
     ensures { MatchingReflexive }
-{
-    0
-}
+{}
 
 // What matches a signature matches all that this one matches.
-pub fn matching_is_transitive() -> u8
+pub fn matching_is_transitive()
     ensures { MatchingTransitive }
-{
-    0
-}
+{}
 
 // The signature that a path has by the first rule matches exactly what the path offers.
-pub fn strengthening_is_exact() -> u8
+pub fn strengthening_is_exact()
     ensures { StrengtheningExact }
-{
-    0
-}
+{}
 
 // What is derived is sound.
-pub fn derived_is_sound<C: Core>(_core: &C) -> u8
+pub fn derived_is_sound<C: Core>(_core: &C)
     ensures { DerivedIsSound C.Core.rule }
-{
-    0
-}
+{}
 
 // Without the sixth rule a module has at most one signature.
-pub fn one_signature<C: Core>(_core: &C) -> u8
+pub fn one_signature<C: Core>(_core: &C)
     ensures { OneSignature C.Core.rule }
-{
-    0
-}
+{}
 
 // The sixth rule adds exactly the sound signatures that are matched.
-pub fn sixth_rule_comes_last<C: Core>(_core: &C) -> u8
+pub fn sixth_rule_comes_last<C: Core>(_core: &C)
     ensures { SixthRuleLast C.Core.rule }
-{
-    0
-}
+{}
 
 // Units have derived signatures exactly when they have such without the sixth rule.
-pub fn loads_alike<C: Core>(_core: &C) -> u8
+pub fn loads_alike<C: Core>(_core: &C)
     ensures { LoadsAlike C.Core.rule }
-{
-    0
-}
+{}
 
 // A signature is derived for a unit exactly when it is sound and the unit's own signature matches it.
-pub fn derived_exactly<C: Core>(_core: &C) -> u8
+pub fn derived_exactly<C: Core>(_core: &C)
     ensures { DerivedExactly C.Core.rule }
-{
-    0
-}
+{}
 
 // A unit has at most one own signature.
-pub fn own_is_one<C: Core>(_core: &C) -> u8
+pub fn own_is_one<C: Core>(_core: &C)
     ensures { OwnIsOne C.Core.rule }
-{
-    0
-}
+{}
 
 // The own signature is the least of those derived for the unit.
-pub fn own_is_least<C: Core>(_core: &C) -> u8
+pub fn own_is_least<C: Core>(_core: &C)
     ensures { OwnIsLeast C.Core.rule }
-{
-    0
-}
+{}
 
 // Units have derived signatures exactly when the checker accepts them.
-pub fn check_decides<C: Core>(_core: &C) -> u8
+pub fn check_decides<C: Core>(_core: &C)
     ensures { CheckDecides C.Core.rule }
-{
-    0
-}
+{}
 
 // A signature is derived for a unit exactly when the checker says that it fits.
-pub fn fit_decides<C: Core>(_core: &C) -> u8
+pub fn fit_decides<C: Core>(_core: &C)
     ensures { FitDecides C.Core.rule }
-{
-    0
-}
+{}
 
 // The checker's signature of a unit and the unit's own match each other.
-pub fn checked_is_own<C: Core>(_core: &C) -> u8
+pub fn checked_is_own<C: Core>(_core: &C)
     ensures { CheckedIsOwn C.Core.rule }
-{
-    0
-}
+{}
 
 // Units have derived signatures exactly when the checker with faults accepts them, unless it refuses a size.
-pub fn run_decides<C: Core>(_core: &C) -> u8
+pub fn run_decides<C: Core>(_core: &C)
     ensures { RunDecides C.Core.rule }
-{
-    0
-}
+{}
 
 // A written signature is derived for an accepted unit exactly when it fits, unless a size is refused.
-pub fn run_fit_decides<C: Core>(_core: &C) -> u8
+pub fn run_fit_decides<C: Core>(_core: &C)
     ensures { RunFitDecides C.Core.rule }
-{
-    0
-}
+{}
 
 // The mismatch that is told is the first, in the order of the signature wanted.
-pub fn mismatch_is_first() -> u8
+pub fn mismatch_is_first()
     ensures { MismatchIsFirst }
-{
-    0
-}
+{}
 
 // No mismatch is told exactly where a signature matches.
-pub fn no_mismatch_matches() -> u8
+pub fn no_mismatch_matches()
     ensures { NoMismatchMatches }
-{
-    0
-}
+{}
 
 // A fault tells a question that the text asks, once those before are answered yes, and that is answered no.
-pub fn refusals_mean<C: Core>(_core: &C) -> u8
+pub fn refusals_mean<C: Core>(_core: &C)
     ensures { RefusalsMean C.Core.rule }
-{
-    0
-}
+{}
 
 // What accepted units make known is in normal form, and stands apart in the row.
-pub fn known_is_tidy<C: Core>(_core: &C) -> u8
+pub fn known_is_tidy<C: Core>(_core: &C)
     ensures { KnownIsTidy C.Core.rule }
-{
-    0
-}
+{}
 
 // A rule takes normal forms exactly when it takes them with numbers for abstract types.
-pub fn numbers_exact<C: Core>(_core: &C) -> u8
+pub fn numbers_exact<C: Core>(_core: &C)
     ensures { NumbersExact C.Core.rule }
-{
-    0
-}
+{}
 
 // What the rules say of sample projects over mini-ML.
-pub fn samples_hold() -> u8
+pub fn samples_hold()
     ensures { Samples }
 {
     let core = MiniMl;
     check_decides(&core);
     fit_decides(&core);
-    0
 }
 
 // A core of first order breaks the law; parameters match against the results' direction; nested types are read at the longer path.
-pub fn errors_are_caught() -> u8
+pub fn errors_are_caught()
     ensures { ErrorsCaught }
 {
     let core = MiniMl;
     check_decides(&core);
-    0
 }
 
 // What the checker with faults answers for each kind of fault, and at the limits.
-pub fn fault_runs() -> u8
+pub fn fault_runs()
     ensures { FaultRuns }
-{
-    0
-}
+{}
