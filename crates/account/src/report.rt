@@ -17,7 +17,7 @@ pub struct Shown<'a>(pub &'a [u8]);
 impl fmt::Display for Shown<'_> {
     fn fmt<W: fmt::Write>(&self, f: &mut fmt::Formatter<W>) -> fmt::Result {
         for b in self.0 {
-            write!(f, "{}", char::from(shown_byte(*b)))?;
+            f.write_char(char::from(shown_byte(*b)))?;
         }
         Ok(())
     }
