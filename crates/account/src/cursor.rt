@@ -4,22 +4,21 @@ ghost use Rattle.std.specs.List.{prefix_len};
 ghost use Rattle.account.specs.Lines.{stays_on_line, line_of, column_of, line_around};
 
 // A line and a column, both from 0.
-#[derive(Clone, Copy, PartialEq, Eq, Debug)]
+#[derive(Clone, Copy, PartialEq, Eq, Debug, Default)]
 pub struct Position {
     pub line: usize,
     pub column: usize,
 }
 
-// A place in a text, with the line feeds before it and the bytes since the last of them. Both count from 0.
+// A place in a text, with the line feeds before it and the bytes since the last of them.
 #[derive(Clone, Copy, PartialEq, Eq, Debug)]
 pub struct Cursor<'a> {
     text: &'a [u8],
     place: usize,
-    line: usize,
-    column: usize,
+    position: Position,
     ghost within: { place ≤ length text.now },
-    ghost counted: { line ≡ line_of text.now place },
-    ghost reached: { column ≡ column_of text.now place },
+    ghost counted: { position.line ≡ line_of text.now place },
+    ghost reached: { position.column ≡ column_of text.now place },
 }
 
 impl<'a> Cursor<'a> {
@@ -30,8 +29,7 @@ impl<'a> Cursor<'a> {
         Cursor {
             text,
             place: 0,
-            line: 0,
-            column: 0,
+            position: Position::default(),
         }
     }
 
@@ -39,10 +37,7 @@ impl<'a> Cursor<'a> {
     pub fn position(self) -> Position
         ensures { (result.line ≡ line_of self.entry.text.now self.entry.place) × (result.column ≡ column_of self.entry.text.now self.entry.place) }
     {
-        Position {
-            line: self.line,
-            column: self.column,
-        }
+        self.position
     }
 
     // The same text at a later place; at its end where the place is behind it, and where it is where the place is before it.
@@ -54,21 +49,19 @@ impl<'a> Cursor<'a> {
             .text
             .get(self.place..place.min(self.text.len()))
             .unwrap_or(&[]);
-        let mut line = self.line;
-        let mut column = self.column;
+        let mut position = self.position;
         for b in passed {
             if *b == b'\n' {
-                line += 1;
-                column = 0;
+                position.line += 1;
+                position.column = 0;
             } else {
-                column += 1;
+                position.column += 1;
             }
         }
         Cursor {
             text: self.text,
             place: self.place + passed.len(),
-            line,
-            column,
+            position,
         }
     }
 
@@ -76,7 +69,7 @@ impl<'a> Cursor<'a> {
     pub fn line_text(self) -> &'a [u8]
         ensures { result.now ≡ line_around self.entry.text.now self.entry.place }
     {
-        let start = self.place - self.column;
+        let start = self.place - self.position.column;
         let end = self.place + before_feed(&self.text[self.place..]);
         &self.text[start..end]
     }

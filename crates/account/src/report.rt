@@ -17,7 +17,7 @@ pub struct Shown<'a>(pub &'a [u8]);
 impl fmt::Display for Shown<'_> {
     fn fmt<W: fmt::Write>(&self, f: &mut fmt::Formatter<W>) -> fmt::Result {
         for b in self.0 {
-            write!(f, "{}", char::from(shown_byte(*b)))?;
+            f.write_char(char::from(shown_byte(*b)))?;
         }
         Ok(())
     }
@@ -36,6 +36,7 @@ impl fmt::Display for FromOne {
 }
 
 // One line for a token: line and column from 1, its kind, and its bytes.
+// The handle and the text stay two parameters: a handle is passed down, and the two together are no thing with a name.
 fn print_token(rt: &impl Print, at: Cursor<'_>, found: Placed<'_>, text: &[u8]) -> io::Result<()> {
     let here = FromOne(at.position());
     let kind = Kind(found.token);

@@ -12,11 +12,10 @@ fn tell(rt: &HostRuntime, file: &str) -> anyhow::Result<()> {
 
 // An account of each file, or of the sample where no file is given.
 pub fn run(rt: &HostRuntime, sample: &str) -> anyhow::Result<()> {
-    let mut files = env::args(rt)?.skip(1);
-    let Some(first) = files.next() else {
+    let mut files = env::args(rt)?.skip(1).peekable();
+    if files.peek().is_none() {
         return tell(rt, sample);
-    };
-    tell(rt, first.as_str())?;
+    }
     for file in files {
         tell(rt, file.as_str())?;
     }

@@ -5,47 +5,38 @@
 mod tests {
     use tokens::count::count_tokens;
     use tokens::integer::value_of;
-    use tokens::lexer::{Reason, next};
+    use tokens::lexer::{Reason, Tokens, next};
     use tokens::token::{Keyword, Token};
 
     // How many tokens a text has, if it lexes.
     fn total(text: &[u8]) -> Option<usize> {
-        match count_tokens(text) {
-            Ok(c) => Some(
-                c.marks
-                    .saturating_add(c.keywords)
-                    .saturating_add(c.lowers)
-                    .saturating_add(c.uppers)
-                    .saturating_add(c.integers),
-            ),
-            Err(_) => None,
-        }
+        let c = count_tokens(text).ok()?;
+        let kinds = [c.marks, c.keywords, c.lowers, c.uppers, c.integers];
+        Some(kinds.iter().fold(0, |sum, n| sum.saturating_add(*n)))
     }
 
     // Where and why a text does not lex.
     fn fault(text: &[u8]) -> Option<(usize, Reason)> {
-        match count_tokens(text) {
-            Ok(_) => None,
-            Err(e) => Some((e.place, e.reason)),
-        }
+        let e = count_tokens(text).err()?;
+        Some((e.place, e.reason))
     }
 
     // The next token's place and end.
     fn span(text: &[u8], from: usize) -> Option<(usize, usize)> {
-        match next(text, from) {
-            Ok(Some(x)) => Some((x.place, x.end)),
+        let found = next(text, from).ok()??;
+        Some((found.place, found.end))
+    }
+
+    fn first_keyword(text: &[u8]) -> Option<Keyword> {
+        match next(text, 0).ok()??.token {
+            Token::Keyword(k) => Some(k),
             _ => None,
         }
     }
 
-    fn first_keyword(text: &[u8]) -> Option<Keyword> {
-        match next(text, 0) {
-            Ok(Some(x)) => match x.token {
-                Token::Keyword(k) => Some(k),
-                _ => None,
-            },
-            _ => None,
-        }
+    // How many answers the iterator over the tokens gives: each token, and the first fault.
+    fn answers(text: &[u8]) -> usize {
+        Tokens::new(text).count()
     }
 
     #[test]
@@ -100,6 +91,14 @@ mod tests {
         assert_eq!(rt; span(b"  ab c", 6), None);
         assert_eq!(rt; span(b"  ab c", 99), None);
         assert_eq!(rt; span(b"[@@ rank", 0), Some((0, 3)));
+    }
+
+    #[test]
+    fn answers_of_the_iterator(rt: HostRuntime) {
+        assert_eq!(rt; answers(b""), 0);
+        assert_eq!(rt; answers(b" x = 1 "), 3);
+        assert_eq!(rt; answers(b" x - 1 y"), 2);
+        assert_eq!(rt; answers(b"[@ rank"), 1);
     }
 
     #[test]

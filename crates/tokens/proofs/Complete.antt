@@ -2,6 +2,7 @@
 use Rattle.std.proofs.Common.{◌≡◌, ℕ, ◌≤◌, Bool, true, false, cond, ◌&&◌, List, [], ◌∷◌, ◌++◌, length, get_or, Some, None, codes, Option, sym, refl, ap, ◌∙◌, true≢false, arith, lit≤, le-leb}
 use mathlib.Core.Bool.{false≢true}
 use lib.Seq.{take-append_seam}
+use Rattle.std.specs.List.{list_all}
 use Rattle.std.proofs.lemmas.Bool.Decides.{nat_tests}
 use Rattle.tokens.specs.Bytes.{is_lower, is_upper, is_letter, is_digit, is_name_byte}
 use Rattle.tokens.specs.Keywords.{keyword_bytes, keyword_of, mark_bytes}
@@ -74,20 +75,16 @@ upper_found (b ∷ xs) rest name ends =
     word_found b xs rest letter name.1 name.2 ends ∙ rw (tells_none (b ∷ xs) (upper_no_keyword b xs up)) (ap (λ t. piece (cond t (lower (b ∷ xs)) (upper (b ∷ xs)))) low)
 
 -- a test of each byte that computes
-abbrev passes : (ℕ → Bool) → List ℕ → Bool
-passes p [] = true
-passes p (x ∷ xs) = p x && passes p xs
-
-all_pass : (p : ℕ → Bool) (xs : List ℕ) → passes p xs ≡ true → All p xs
+all_pass : (p : ℕ → Bool) (xs : List ℕ) → list_all p xs ≡ true → All p xs
 all_pass p [] e = tt
 all_pass p (x ∷ xs) e = go (p x) refl e (all_pass p xs)
   where
-    go : (t : Bool) → p x ≡ t → (t && passes p xs) ≡ true → (passes p xs ≡ true → All p xs) → (p x ≡ true) × All p xs
+    go : (t : Bool) → p x ≡ t → (t && list_all p xs) ≡ true → (list_all p xs ≡ true → All p xs) → (p x ≡ true) × All p xs
     go true is e later = (is, later e)
     go false is e later = absurd (false≢true e)
 
 -- a keyword, by its first letter and the others
-spelt_found : (b : ℕ) (xs rest : List ℕ) (k : Keyword) → keyword_bytes k ≡ b ∷ xs → is_letter b ≡ true → passes is_name_byte xs ≡ true → length (b ∷ xs) ≤ 16 → Ends is_name_byte rest → token_front (keyword_bytes k ++ rest) ≡ piece (keyword k)
+spelt_found : (b : ℕ) (xs rest : List ℕ) (k : Keyword) → keyword_bytes k ≡ b ∷ xs → is_letter b ≡ true → list_all is_name_byte xs ≡ true → length (b ∷ xs) ≤ 16 → Ends is_name_byte rest → token_front (keyword_bytes k ++ rest) ≡ piece (keyword k)
 spelt_found b xs rest k is first all short ends =
     ap (λ l. token_front (l ++ rest)) is
     ∙ word_found b xs rest first (all_pass is_name_byte xs all) short ends

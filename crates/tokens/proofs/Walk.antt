@@ -2,6 +2,7 @@
 use Rattle.std.proofs.Common.{◌≡◌, ℕ, ◌+◌, ◌<◌, ◌≤◌, Bool, true, false, cond, leb, ◌⊎◌, List, [], ◌∷◌, ◌++◌, length, get_or, take, drop, Some, None, fold, Option, sym, refl, ap, ◌∙◌, subst, inl, inr, ⊎_elim, one-add, arith, lit≤, length-append, length-drop, drop-drop, leb-false}
 use mathlib.Core.Bool.{false≢true}
 use Rattle.std.proofs.lemmas.List.{drop_all}
+use Rattle.std.proofs.lemmas.List.Sums.{fold-append}
 use Rattle.std.proofs.str.Laws.{order}
 use Rattle.std.specs.List.{prefix_len}
 use Rattle.tokens.specs.Bytes.{is_blank, is_letter, is_digit, is_name_byte}
@@ -35,18 +36,14 @@ blanks_add_none (lower x ∷ qs) c h = absurd (false≢true h.0)
 blanks_add_none (upper x ∷ qs) c h = absurd (false≢true h.0)
 blanks_add_none (integer x ∷ qs) c h = absurd (false≢true h.0)
 
-folded_append : (c : Counts) (ps qs : List Piece) → fold more c (ps ++ qs) ≡ fold more (fold more c ps) qs
-folded_append c [] qs = refl
-folded_append c (p ∷ ps) qs = folded_append (more c p) ps qs
-
 -- blanks count for nothing
 pub tally_blanks : (ps qs : List Piece) → Blanks qs → tally (ps ++ qs) ≡ tally ps
-tally_blanks ps qs h = folded_append nothing ps qs ∙ blanks_add_none qs (tally ps) h
+tally_blanks ps qs h = fold-append more nothing ps qs ∙ blanks_add_none qs (tally ps) h
 
 -- a token behind blanks counts once
 pub tally_token : (ps qs : List Piece) (p : Piece) → Blanks qs → tally (ps ++ (qs ++ p ∷ [])) ≡ more (tally ps) p
 tally_token ps qs p h =
-    folded_append nothing ps (qs ++ p ∷ []) ∙ folded_append (tally ps) qs (p ∷ []) ∙ ap (λ c. more c p) (blanks_add_none qs (tally ps) h)
+    fold-append more nothing ps (qs ++ p ∷ []) ∙ fold-append more (tally ps) qs (p ∷ []) ∙ ap (λ c. more c p) (blanks_add_none qs (tally ps) h)
 
 pub cuts_append : (ps qs : List Piece) (a b c : List ℕ) → Cuts ps a b → Cuts qs b c → Cuts (ps ++ qs) a c
 cuts_append [] qs a b c x y = subst (λ t. Cuts qs t c) (sym x) y

@@ -76,6 +76,7 @@ impl Error for LexFault {}
 
 impl LexFault {
     // The number of the question that such a text answers with no. Constant time.
+    // A method and no `From`: the number is one fact about a fault, and no other form of it.
     pub fn number(self) -> u8
         ensures { result ≡ fault_number self }
     {

@@ -50,6 +50,7 @@ pub fn same_bytes(a: &[u8], b: &[u8]) -> bool
 }
 
 // The keyword that these bytes spell, if they spell one. Constant time.
+// A look-up and no `TryFrom`: most names are no keyword, and that is no error.
 pub fn keyword_of(name: &[u8]) -> Option<Keyword>
     ensures { result ≡ keyword_of name.now }
 {

@@ -1,11 +1,12 @@
-use Rattle.std.proofs.Common.{◌≡◌, ◌+◌, ◌-◌, min, length, take, drop, sym, ◌∙◌, arith}
+use Rattle.std.proofs.Common.{◌≡◌, ◌+◌, ◌-◌, min, length, take, drop, sym, ap, ◌∙◌, arith}
 use Rattle.std.proofs.lemmas.Grind.{common_steps}
+use Rattle.account.specs.declared.cursor.Position.{Position}
 use Rattle.account.proofs.Places.{behind_feed, behind_other, line_small, passed_at}
 use Rattle.account.proofs.cursor.Cursor.forward.Goals as goal
 use Rattle.account.proofs.cursor.Cursor.forward.Goals.{then-b-eq10, else-b-eq10}
 
-pub overflow_add-column : goal.overflow_add-column
-overflow_add-column c =
+pub overflow_add-position-else-b-eq10 : goal.overflow_add-position-else-b-eq10
+overflow_add-position-else-b-eq10 c =
     let text = c.args.self.text.now in
     let from = c.args.self.place in
     let passed : c.unwrap_or-passed.result.now ≡ take (min c.args.place (length text) - from) (drop from text) = grind (arith, common_steps) in
@@ -24,8 +25,8 @@ loop-b-preserved c =
     elim c.if-b-eq10.branch [
       | then-b-eq10 w ↦
           let next = behind_feed text at here.0 (sym here.1 ∙ w.if-b-eq10.true) in
-          (omega (arith, next.0, w.line-is), omega (arith, next.1, w.column-is))
+          (omega (arith, next.0, ap (λ (p : Position). p.line) w.position-is), omega (arith, next.1, ap (λ (p : Position). p.column) w.position-is))
       | else-b-eq10 w ↦
           let next = behind_other text at here.0 (λ e. w.if-b-eq10.false (here.1 ∙ e)) in
-          (omega (arith, next.0, w.line-is), omega (arith, next.1, w.column-is))
+          (omega (arith, next.0, ap (λ (p : Position). p.line) w.position-is), omega (arith, next.1, ap (λ (p : Position). p.column) w.position-is))
     ]

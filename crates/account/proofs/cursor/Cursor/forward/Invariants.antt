@@ -6,4 +6,4 @@ use Rattle.account.proofs.cursor.Cursor.forward.Given as goal
 abbrev pub invariant-loop-b : goal.invariant-loop-b
 invariant-loop-b l =
     let reached = l.self.place + l.b-index in
-    (l.line ≡ line_of l.self.text.now reached) × (l.column ≡ column_of l.self.text.now reached)
+    (l.position.line ≡ line_of l.self.text.now reached) × (l.position.column ≡ column_of l.self.text.now reached)

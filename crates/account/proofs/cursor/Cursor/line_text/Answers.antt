@@ -8,4 +8,4 @@ overflow_sub-start c = omega (arith, (line_small c.args.self.text.now c.args.sel
 pub returns : goal.returns
 returns c =
     let self = c.args.self in
-    line_is self.text.now self.place self.column c.before_feed.result self.reached (omega (arith, (line_small self.text.now self.place self.within).1)) c.before_feed.ensures.value
+    line_is self.text.now self.place self.position.column c.before_feed.result self.reached (omega (arith, (line_small self.text.now self.place self.within).1)) c.before_feed.ensures.value
