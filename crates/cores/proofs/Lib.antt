@@ -1,5 +1,4 @@
 mod Values
-mod Comparing
 mod Replies
 mod Lawful
 mod Tables

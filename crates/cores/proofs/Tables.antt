@@ -16,7 +16,6 @@ use Rattle.cores.specs.Steps.{Items, itemized}
 use Rattle.cores.specs.declared.interface.Operation.{Operation}
 use Rattle.cores.specs.declared.interface.Operation.TheVariants.{Literal, Function, Operator}
 use Rattle.cores.specs.Tables.{tabled, row, row_at, joined, Rows, operation_row}
-use Rattle.cores.specs.declared.interface.Found.{Found}
 use Rattle.cores.specs.declared.table.Entry.{Entry}
 
 abbrev pub has_name : Name → Entry → Bool

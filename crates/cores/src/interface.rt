@@ -52,16 +52,16 @@ impl<K> Refusal<K> {
             Refusal::Short => Refusal::Short,
         }
     }
-}
 
-// The number of the question to which a refusal says no, if it belongs to one. Constant time.
-pub fn question_number<K: Copy>(refusal: Refusal<K>) -> Option<u8>
-    ensures { result ≡ question_number refusal }
-{
-    match refusal {
-        Refusal::Cause(_) => Some(13),
-        Refusal::Size => Some(16),
-        Refusal::Arguments | Refusal::Short => None,
+    // The number of the question to which a refusal says no, if it belongs to one. Constant time.
+    pub fn question_number(&self) -> Option<u8>
+        ensures { result ≡ question_number self.now }
+    {
+        match self {
+            Refusal::Cause(_) => Some(13),
+            Refusal::Size => Some(16),
+            Refusal::Arguments | Refusal::Short => None,
+        }
     }
 }
 

@@ -92,22 +92,28 @@ pub struct Layered<L, C> {
     pub below: C,
 }
 
-// Whether a core with so many words has room for these many more.
-fn has_room(below: u32, own: u32) -> bool
-    ensures { result ≡ nat_le (below + own) 1073741824 }
-{
-    u64::from(below) + u64::from(own) <= 1073741824
-}
+// So many words have label numbers.
+const ROOM: u32 = 1 << 30;
 
-// The line of the operator of this number in a stack, where `base` words stand below the layer's own.
-fn line_at<L: Layer>(layer: &L, base: u32, number: u32) -> Option<Line<'_>>
-    requires { base ≤ number }
-    ensures { option_map (λ l. row_items l) result ≡ option_map (λ l. itemized l) (line_from base (own L.Layer.entries base) number) }
-{
-    if has_room(base, layer.own_count()) {
-        layer.own_line(number - base)
-    } else {
-        None
+impl<L: Layer, C: Core> Layered<L, C> {
+    // Whether there is room for the layer's own words above so many others.
+    fn has_room(&self, base: u32) -> bool
+        ensures { result ≡ nat_le (base + length L.Layer.entries) 1073741824 }
+    {
+        base.checked_add(self.layer.own_count())
+            .is_some_and(|count| count <= ROOM)
+    }
+
+    // The line of the operator of this number in the stack, where `base` words stand below the layer's own.
+    fn line_at(&self, base: u32, number: u32) -> Option<Line<'_>>
+        requires { base ≤ number }
+        ensures { option_map (λ l. row_items l) result ≡ option_map (λ l. itemized l) (line_from base (own L.Layer.entries base) number) }
+    {
+        if self.has_room(base) {
+            self.layer.own_line(number - base)
+        } else {
+            None
+        }
     }
 }
 
@@ -126,9 +132,8 @@ impl<L: Layer, C: Core> Core for Layered<L, C> {
 
     fn count(&self) -> u32 {
         let base = self.below.count();
-        let own = self.layer.own_count();
-        if has_room(base, own) {
-            base + own
+        if self.has_room(base) {
+            base + self.layer.own_count()
         } else {
             base
         }
@@ -139,13 +144,13 @@ impl<L: Layer, C: Core> Core for Layered<L, C> {
             return Some(found);
         }
         let base = self.below.count();
-        if !has_room(base, self.layer.own_count()) {
+        if !self.has_room(base) {
             return None;
         }
         let found = self.layer.own_word(name)?;
         Some(Found {
             number: base + found.number,
-            kind: found.kind,
+            ..found
         })
     }
 
@@ -153,7 +158,7 @@ impl<L: Layer, C: Core> Core for Layered<L, C> {
         let base = self.below.count();
         if label < base {
             self.below.label_name(label)
-        } else if has_room(base, self.layer.own_count()) {
+        } else if self.has_room(base) {
             self.layer.own_label(label - base)
         } else {
             None
@@ -167,14 +172,15 @@ impl<L: Layer, C: Core> Core for Layered<L, C> {
         out: &mut [u32],
     ) -> Result<usize, Refusal<LayerCause<C::Cause>>> {
         let base = self.below.count();
-        if let Operation::Operator(number) = operation {
-            if number >= base {
-                return match answer_line(line_at(&self.layer, base, number), base, args, out) {
+        match operation {
+            Operation::Operator(number) if number >= base => {
+                // not by `map_err`: no argument of `own_refusal` names the cause from below, and such a call is not covered
+                match answer_line(self.line_at(base, number), base, args, out) {
                     Ok(n) => Ok(n),
                     Err(refusal) => Err(own_refusal(refusal)),
-                };
+                }
             }
+            _ => Ok(self.below.answer(operation, args, out)?),
         }
-        Ok(self.below.answer(operation, args, out)?)
     }
 }

@@ -8,4 +8,4 @@ pub mod lines;
 pub mod mini_c;
 pub mod mini_ml;
 pub mod pairs;
-pub mod table;
+mod table;

@@ -123,10 +123,7 @@ const LANGUAGE: Language<'static> = Language {
 fn writes_ptr(operation: Operation, position: u32) -> bool
     ensures { result ≡ pointer_at (c_line operation) position }
 {
-    match operation {
-        Operation::Operator(number) => position == 1 && (number == DEREF || number == STORE),
-        Operation::Literal | Operation::Function => false,
-    }
+    position == 1 && matches!(operation, Operation::Operator(DEREF | STORE))
 }
 
 // A refusal with the pointer mark.
@@ -170,9 +167,8 @@ impl Core for MiniC {
         args: &[u32],
         out: &mut [u32],
     ) -> Result<usize, Refusal<CCause>> {
-        match answer_line(LANGUAGE.line(operation), 0, args, out) {
-            Ok(n) => Ok(n),
-            Err(refusal) => Err(marked(operation, refusal)),
-        }
+        answer_line(LANGUAGE.line(operation), 0, args, out).map_err(|refusal| marked(
+            operation, refusal,
+        ))
     }
 }

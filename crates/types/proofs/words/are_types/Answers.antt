@@ -13,7 +13,7 @@ loop-word-preserved c =
     YieldsList-turn (YieldsList-from_rev_slice ws (cc)) c.loop-word.yielded _ c.loop-word.yielded_by _ _ c.in-Some.word c.in-Some.is c.next.ensures.steps in
     let n = c.in-Some-types_with.n in
     subst (λ k. WholeBack ws k n) (sym (length_push c.loop-word.yielded c.in-Some.word))
-        (whole_back ws _ c.loop-word.count n c.in-Some.word.now (λ i. omega (arith, c.type_inv.words i)) c.loop-word.invariant r (cc))
+    (whole_back ws _ c.loop-word.count n c.in-Some.word.now (λ i. omega (arith, c.type_inv.words i)) c.loop-word.invariant r (cc))
 
 pub returns-in_default : goal.returns-in_default
 returns-in_default c =

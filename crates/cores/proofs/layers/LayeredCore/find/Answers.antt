@@ -1,25 +1,15 @@
-use Rattle.std.proofs.Common.{◌≡◌, ℕ, ◌+◌, ◌≤◌, true, false, leb, length, Some, sym, ap, ◌∙◌, arith}
+use Rattle.std.proofs.Common.{◌≡◌, ℕ, ◌+◌, ◌≤◌, true, leb, length, Some, sym, ap, ◌∙◌, arith}
 use Rattle.std.proofs.lemmas.Bool.Decides.{nat_tests}
 use Rattle.std.specs.Option.{option_map}
-use Rattle.cores.specs.Stacks.{find_below, find_none, find_own, own_bound, raised}
+use Rattle.cores.specs.Stacks.{find_below, find_own, own_bound, raised}
 use Rattle.cores.proofs.layers.LayeredCore.find.Goals as goal
 
 pub returns-in-Some : goal.returns-in-Some
 returns-in-Some g c = find_below g.L.Layer.entries g.C.Core.words c.args.name.now c.in-Some.found (sym c.find.ensures ∙ c.in-Some.is)
 
-pub returns-then-not-has_room : goal.returns-then-not-has_room
-returns-then-not-has_room g c =
-    let b = c.count-base.ensures in
-    let o = c.own_count.ensures in
-    let t = c.has_room.ensures in
-    let u = c.if-not-has_room.true in
-    let r : leb (length g.C.Core.words + length g.L.Layer.entries) 1073741824 ≡ false = cc in
-    find_none g.L.Layer.entries g.C.Core.words c.args.name.now (sym c.find.ensures ∙ c.in_default.is) r
-
 pub returns-in_err-found : goal.returns-in_err-found
 returns-in_err-found g c =
     let b = c.count-base.ensures in
-    let o = c.own_count.ensures in
     let t = c.has_room.ensures in
     let u = c.if-not-has_room.false in
     let r : leb (length g.C.Core.words + length g.L.Layer.entries) 1073741824 ≡ true = cc in
@@ -30,7 +20,6 @@ returns-in_err-found g c =
 pub overflow_add-result : goal.overflow_add-result
 overflow_add-result g c =
     let b = c.count-base.ensures in
-    let o = c.own_count.ensures in
     let t = c.has_room.ensures in
     let u = c.if-not-has_room.false in
     let r : leb (length g.C.Core.words + length g.L.Layer.entries) 1073741824 ≡ true = cc in
@@ -41,7 +30,6 @@ overflow_add-result g c =
 pub returns : goal.returns
 returns g c =
     let b = c.count-base.ensures in
-    let o = c.own_count.ensures in
     let t = c.has_room.ensures in
     let u = c.if-not-has_room.false in
     let r : leb (length g.C.Core.words + length g.L.Layer.entries) 1073741824 ≡ true = cc in

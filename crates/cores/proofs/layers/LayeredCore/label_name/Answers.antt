@@ -13,7 +13,6 @@ returns-then-label-base g c =
 pub returns-then-has_room : goal.returns-then-has_room
 returns-then-has_room g c =
     let b = c.count-base.ensures in
-    let o = c.own_count.ensures in
     let t = c.has_room.ensures in
     let u = c.if-has_room.true in
     let w = c.if-label-base.false in
@@ -25,7 +24,6 @@ returns-then-has_room g c =
 pub returns-else-has_room : goal.returns-else-has_room
 returns-else-has_room g c =
     let b = c.count-base.ensures in
-    let o = c.own_count.ensures in
     let t = c.has_room.ensures in
     let u = c.if-has_room.false in
     let w = c.if-label-base.false in
