@@ -74,9 +74,9 @@ module _ (u : Units) where
     where
       ok_only : (b : Bool) (p q : Option ℕ) → Ok o ≡ cond b (Err TooMany) (unless p Missing (unless q Cycle (Ok (load_order u))))
           → Fits u.count (Ok o)
-      ok_only true p q e = absurd (let z : ◌≡◌ {A = ℕ} 0 1 = cc in omega arith)
-      ok_only false (Some i) q e = absurd (let z : ◌≡◌ {A = ℕ} 0 1 = cc in omega arith)
-      ok_only false None (Some i) e = absurd (let z : ◌≡◌ {A = ℕ} 0 1 = cc in omega arith)
+      ok_only true p q e = cc
+      ok_only false (Some i) q e = cc
+      ok_only false None (Some i) e = cc
       ok_only false None None e = subst (Fits u.count) (sym e) (ok_fits m.0 m.1)
 
   pub means : Means u (arranged u)
