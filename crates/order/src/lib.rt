@@ -40,6 +40,7 @@ pub struct Unit<'a> {
     pub misses: bool,
 }
 
+// The buffer and the length stand in this type alone: an `ArrayVec` is not `Copy`, as a load order is.
 /// A load order: the places of at most 16 units, in the order in which they load.
 #[derive(Clone, Copy, PartialEq, Eq, Debug)]
 pub struct Order {
@@ -109,6 +110,7 @@ pub enum Fault {
 impl Fault {
     /// The number of the question that such units answer with no. More than 16 units have none: a store never holds
     /// them. One step.
+    // The numbers are the rule's, case by case; a conversion would say no more.
     pub fn number(self) -> Option<u8>
         ensures { result ≡ question self }
     {

@@ -18,6 +18,7 @@ fn beyond(marks: u16, count: usize) -> bool
     count < MOST && marks >> count != 0
 }
 
+// A slice and a place are two parameters, as of the public `ready`: a type of both would be taken apart in each.
 /// Whether the unit at a place names a unit that is not stored. A few steps.
 pub(crate) fn lacks(units: &[Unit<'_>], i: usize) -> bool
     ensures { result ≡ (seen units.now).lacks i }
