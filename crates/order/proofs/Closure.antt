@@ -1,6 +1,7 @@
 -- Reaching by naming, and the rows of marks that say it.
 use Rattle.std.proofs.Common.{◌≡◌, ℕ, zero, suc, ◌+◌, ◌<◌, ◌≤◌, Bool, true, false, cond, ◌&&◌, ◌||◌, ltb, ◌⊎◌, List, get_or, sym, refl, ap, ◌∙◌, subst, ap₂, inl, inr, ⊎_elim, add-one, arith}
 use lib.Bits.{bit_or}
+use Rattle.std.proofs.Math.Bool.{or-false}
 use Rattle.std.proofs.lemmas.Bool.{cases_eq, lt-ltb, ltb-true, and_parts, and_from, or_cases, or_left, or_right}
 use Rattle.order.specs.Units.{Units, names}
 use Rattle.order.specs.Reaching.{Reaches, direct, onward, reach}
@@ -13,12 +14,8 @@ use Rattle.order.proofs.Bit.{bit_or_lem}
 pub row_joined : (row k via j : ℕ) → bit row k ≡ true → bit (bit_or row via) j ≡ (bit row j || (bit row k && bit via j))
 row_joined row k via j h = bit_or_lem row via j ∙ ap (λ b. bit row j || (b && bit via j)) (sym h)
 
-or_false : (b : Bool) → b ≡ (b || false)
-or_false true = refl
-or_false false = refl
-
 pub row_kept : (row k via j : ℕ) → bit row k ≡ false → bit row j ≡ (bit row j || (bit row k && bit via j))
-row_kept row k via j h = or_false (bit row j) ∙ ap (λ b. bit row j || (b && bit via j)) (sym h)
+row_kept row k via j h = sym (or-false (bit row j)) ∙ ap (λ b. bit row j || (b && bit via j)) (sym h)
 
 -- row via is taken up where row has bit k
 pub row_through : (row k via j : ℕ) → bit (cond (bit row k) (bit_or row via) row) j ≡ (bit row j || (bit row k && bit via j))

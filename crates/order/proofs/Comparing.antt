@@ -1,36 +1,22 @@
 -- Names and tuples compared.
-use Rattle.std.proofs.Common.{◌≡◌, ℕ, ◌<◌, cond, ltb, nat_lt, List, [], ◌∷◌, Ordering, Less, Equal, Greater, sym, refl, ap, ◌∙◌, ap₂, arith}
+use Rattle.std.proofs.Common.{◌≡◌, ℕ, ◌<◌, nat_lt, List, [], ◌∷◌, Ordering, Less, Equal, Greater, refl, ap₂, arith}
 use Rattle.std.specs.Cmp.Lexicographic.{slice_cmp}
-use Rattle.std.specs.Ordering.{MatchOrdering, nat_cmp, is_lt, ordering_then}
-use Rattle.std.proofs.lemmas.Bool.{lt-ltb, le-ltb}
+use Rattle.std.specs.Ordering.{nat_cmp, is_lt, ordering_then}
 use Rattle.std.proofs.lemmas.Bool.Decides.{nat_tests}
-use Rattle.std.proofs.lemmas.Cmp.{ranked}
 use Rattle.order.specs.Compare.{number, compared, settled}
 
 -- ---- numbers
 
 pub number_less : (m n : ℕ) → m < n → number m n ≡ Less
-number_less m n h = ap (λ b. cond b Less (cond (ltb n m) Greater Equal)) (lt-ltb m n h)
-
-pub number_greater : (m n : ℕ) → n < m → number m n ≡ Greater
-number_greater m n h =
-    ap (λ b. cond b Less (cond (ltb n m) Greater Equal)) (le-ltb m n (omega arith))
-    ∙ ap (λ b. cond b Greater Equal) (lt-ltb n m h)
+number_less m n h = grind (arith, nat_tests)
 
 pub number_equal : (m n : ℕ) → m ≡ n → number m n ≡ Equal
-number_equal m n h =
-    ap (λ b. cond b Less (cond (ltb n m) Greater Equal)) (le-ltb m n (omega arith))
-    ∙ ap (λ b. cond b Greater Equal) (le-ltb n m (omega arith))
-
-pub number_ranked : (o : Ordering) (m n : ℕ) → MatchOrdering o (m < n) (m ≡ n) (n < m) → o ≡ number m n
-number_ranked Less m n h = sym (number_less m n h)
-number_ranked Equal m n h = sym (number_equal m n h)
-number_ranked Greater m n h = sym (number_greater m n h)
+number_equal m n h = grind (arith, nat_tests)
 
 -- ---- as the library compares them
 
 pub number_is : (m n : ℕ) → nat_cmp m n ≡ number m n
-number_is m n = number_ranked (nat_cmp m n) m n (ranked m n (nat_cmp m n) refl)
+number_is m n = grind (arith, nat_tests)
 
 pub compared_is : (a b : List ℕ) → slice_cmp nat_cmp a b ≡ compared a b
 compared_is [] [] = refl

@@ -1,6 +1,5 @@
 -- What arranging answers means what is promised.
-use Rattle.std.proofs.Common.{◌≡◌, ℕ, ◌-◌, ◌<◌, Bool, true, false, cond, ltb, List, length, get_or, replicate, Some, None, Ok, Err, Option, Result, sym, refl, subst, inl, inr, ⊎_elim, arith}
-use Rattle.std.proofs.lemmas.List.{take_at, get_or_append_left}
+use Rattle.std.proofs.Common.{◌≡◌, ℕ, Bool, true, false, cond, ltb, get_or, Some, None, Ok, Err, Option, Result, sym, refl, subst, inl, inr, ⊎_elim, arith}
 use Rattle.std.proofs.lemmas.Bool.{cases_Bool, both_ways, ltb-true}
 use Rattle.order.specs.declared.Order.{Order}
 use Rattle.order.specs.declared.Fault.{Fault}
@@ -9,8 +8,8 @@ use Rattle.order.specs.Units.{Units}
 use Rattle.order.specs.Compare.{by_name}
 use Rattle.order.specs.Picking.{load_order}
 use Rattle.order.specs.Reaching.{Reaches, cyclic, missing, cycle}
-use Rattle.order.specs.Law.{LoadOrder, Least, Complete, Acyclic, LeastNamed, ExistsExactly}
-use Rattle.order.specs.Answer.{order_of_places, unless, arranged, Fits, Means}
+use Rattle.order.specs.Law.{Complete, Acyclic, LeastNamed, ExistsExactly}
+use Rattle.order.specs.Answer.{unless, arranged, Fits, Means}
 use Rattle.order.proofs.LeastOf.{IsBest, best_is}
 use Rattle.order.proofs.Precedence.{by_name_strict, by_name_told}
 use Rattle.order.proofs.Closure.{reach_sound, reach_complete, reached_below}
@@ -37,14 +36,12 @@ exists_exactly u = (
 )
 
 module _ (u : Units) where
-  ok_means : Complete u → Acyclic u → Means u (Ok (order_of_places (load_order u)))
+  ok_means : Complete u → Acyclic u → Means u (Ok (load_order u))
   ok_means complete acyclic =
-      let P : List ℕ → Type 0 = λ ps. Complete u × Acyclic u × LoadOrder u ps × Least u ps in
-      subst P (sym (take_at (load_order u) (replicate (16 - length (load_order u)) 0) (length (load_order u)) refl))
       (complete, acyclic, load_order_is u complete acyclic, load_order_least u complete acyclic)
 
   cycle_asked : Complete u → (o : Option ℕ) → IsBest (cyclic u) (by_name u) u.count o
-      → Means u (unless o Cycle (Ok (order_of_places (load_order u))))
+      → Means u (unless o Cycle (Ok (load_order u)))
   cycle_asked complete None b =
       ok_means complete (λ i r. b i (reached_below u r) (reach_complete u r))
   cycle_asked complete (Some i) b =
@@ -52,7 +49,7 @@ module _ (u : Units) where
       (complete, told, λ ps o. order_acyclic u ps o i told.told)
 
   missing_asked : (o : Option ℕ) → IsBest u.lacks (by_name u) u.count o
-      → Means u (unless o Missing (unless (cycle u) Cycle (Ok (order_of_places (load_order u)))))
+      → Means u (unless o Missing (unless (cycle u) Cycle (Ok (load_order u))))
   missing_asked None b =
       cycle_asked
       (λ i l. ⊎_elim (λ h. absurd (b i l h)) (λ h. h) (cases_Bool (u.lacks i)))
@@ -62,28 +59,24 @@ module _ (u : Units) where
       (told, λ ps o. both_ways (u.lacks i) (order_complete u ps o i told.unit) told.told)
 
   many_asked : (b : Bool) → ltb 16 u.count ≡ b
-      → Means u (cond b (Err TooMany) (unless (missing u) Missing (unless (cycle u) Cycle (Ok (order_of_places (load_order u))))))
+      → Means u (cond b (Err TooMany) (unless (missing u) Missing (unless (cycle u) Cycle (Ok (load_order u)))))
   many_asked true e = ltb-true 16 u.count e
   many_asked false e = missing_asked (missing u) (best_is u.lacks (by_name u) (by_name_strict u) u.count)
 
-  ok_fits : Complete u → Acyclic u → Fits u.count (Ok (order_of_places (load_order u)))
+  ok_fits : Complete u → Acyclic u → Fits u.count (Ok (load_order u))
   ok_fits complete acyclic =
-      let long = load_order_long u complete acyclic in (
-        long,
-        λ k l. let within : k < length (load_order u) = omega (arith, long) in
-            subst (λ i. i < u.count) (sym (get_or_append_left (load_order u) (replicate (16 - length (load_order u)) 0) 0 k within))
-            ((load_order_is u complete acyclic).units (get_or (load_order u) k 0) (has_at (load_order u) k within)),
-      )
+      let long = load_order_long u complete acyclic in
+      (long, λ k l. (load_order_is u complete acyclic).units (get_or (load_order u) k 0) (has_at (load_order u) k (omega (arith, long))))
 
   fits_from : (r : Result Order Fault) → r ≡ arranged u → Means u r → Fits u.count r
   fits_from (Err f) e m = tt
   fits_from (Ok o) e m = ok_only (ltb 16 u.count) (missing u) (cycle u) e
     where
-      ok_only : (b : Bool) (p q : Option ℕ) → Ok o ≡ cond b (Err TooMany) (unless p Missing (unless q Cycle (Ok (order_of_places (load_order u)))))
+      ok_only : (b : Bool) (p q : Option ℕ) → Ok o ≡ cond b (Err TooMany) (unless p Missing (unless q Cycle (Ok (load_order u))))
           → Fits u.count (Ok o)
-      ok_only true p q e = absurd (let z : ◌≡◌ {A = ℕ} 0 1 = cc in omega arith)
-      ok_only false (Some i) q e = absurd (let z : ◌≡◌ {A = ℕ} 0 1 = cc in omega arith)
-      ok_only false None (Some i) e = absurd (let z : ◌≡◌ {A = ℕ} 0 1 = cc in omega arith)
+      ok_only true p q e = cc
+      ok_only false (Some i) q e = cc
+      ok_only false None (Some i) e = cc
       ok_only false None None e = subst (Fits u.count) (sym e) (ok_fits m.0 m.1)
 
   pub means : Means u (arranged u)

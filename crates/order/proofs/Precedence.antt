@@ -1,58 +1,34 @@
 -- Ranks and names put any two units in order.
 use Rattle.std.proofs.Common.{◌≡◌, ℕ, ◌<◌, Bool, true, false, ltb, ◌⊎◌, List, [], ◌∷◌, Decides, Ordering, Less, Equal, Greater, sym, refl, ap, ◌∙◌, subst, ap₂, inl, inr, ⊎_elim, arith}
+use mathlib.Core.Path.{fun_ext}
+use Rattle.std.specs.Cmp.{IsTotalOrder}
 use Rattle.std.specs.Ordering.{ordering_reverse, ordering_then, MatchOrdering}
-use Rattle.std.proofs.lemmas.Bool.{cases_order, both_ways, ltb-true, ltb-false, lt-ltb}
+use Rattle.std.proofs.lemmas.Bool.{both_ways, ltb-true, ltb-false, lt-ltb}
 use Rattle.std.proofs.lemmas.Bool.Decides.{Decides-at}
+use Rattle.std.proofs.lemmas.Cmp.{ranked, nat_cmp_total, nat_list_cmp_total}
 use Rattle.order.specs.Units.{Units}
 use Rattle.order.specs.Compare.{NameLess, UnitLess, NameFirst, TupleFirst, Distinct, number, compared, settled, by_name, tuple, tuple_before, earlier}
-use Rattle.order.proofs.Comparing.{number_less, number_equal, number_greater}
+use Rattle.order.proofs.Comparing.{number_less, number_equal, number_is, compared_is}
 use Rattle.order.proofs.LeastOf.{Strict}
 
--- a comparison that answers as an order does
-record Orders {A : Type 0} (cmp : A → A → Ordering) : Type 0 where
-  flips : (a b : A) → cmp b a ≡ ordering_reverse (cmp a b)
-  same : (a b : A) → cmp a b ≡ Equal → a ≡ b
-  leads : (a b c : A) → cmp a b ≡ Less → cmp b c ≡ Less → cmp a c ≡ Less
+-- ---- as the library's orders
+
+number_total : IsTotalOrder number
+number_total = subst IsTotalOrder (fun_ext (λ m. fun_ext (number_is m))) nat_cmp_total
+
+compared_total : IsTotalOrder compared
+compared_total = subst IsTotalOrder (fun_ext (λ a. fun_ext (compared_is a))) nat_list_cmp_total
 
 -- ---- numbers
 
-number_flips : (m n : ℕ) → number n m ≡ ordering_reverse (number m n)
-number_flips m n =
-    ⊎_elim (λ e. number_equal n m (sym e) ∙ ap ordering_reverse (sym (number_equal m n e)))
-    (⊎_elim (λ l. number_greater n m l ∙ ap ordering_reverse (sym (number_less m n l)))
-    (λ l. number_less n m l ∙ ap ordering_reverse (sym (number_greater m n l))))
-    (cases_order m n)
+number_told : (m n : ℕ) (o : Ordering) → number m n ≡ o → MatchOrdering o (m < n) (m ≡ n) (n < m)
+number_told m n o e = ranked m n o (sym e ∙ sym (number_is m n))
 
 pub number_is_less : (m n : ℕ) → number m n ≡ Less → m < n
-number_is_less m n e =
-    ⊎_elim (λ s. absurd (apart (sym (number_equal m n s) ∙ e)))
-    (⊎_elim (λ l. l) (λ l. absurd (apart' (sym (number_greater m n l) ∙ e))))
-    (cases_order m n)
-  where
-    apart : Equal ≡ Less → ⊥
-    apart e = let z : ◌≡◌ {A = ℕ} 0 1 = cc in omega arith
-
-    apart' : Greater ≡ Less → ⊥
-    apart' e = let z : ◌≡◌ {A = ℕ} 0 1 = cc in omega arith
+number_is_less m n e = number_told m n Less e
 
 pub number_same : (m n : ℕ) → number m n ≡ Equal → m ≡ n
-number_same m n e =
-    ⊎_elim (λ s. s)
-    (⊎_elim (λ l. absurd (apart (sym (number_less m n l) ∙ e))) (λ l. absurd (apart' (sym (number_greater m n l) ∙ e))))
-    (cases_order m n)
-  where
-    apart : Less ≡ Equal → ⊥
-    apart e = let z : ◌≡◌ {A = ℕ} 0 1 = cc in omega arith
-
-    apart' : Greater ≡ Equal → ⊥
-    apart' e = let z : ◌≡◌ {A = ℕ} 0 1 = cc in omega arith
-
-number_orders : Orders number
-number_orders = record {
-  flips = number_flips;
-  same = number_same;
-  leads = λ a b c p q. number_less a c (omega (arith, number_is_less a b p, number_is_less b c q));
-}
+number_same m n e = number_told m n Equal e
 
 -- ---- names
 
@@ -62,61 +38,25 @@ then_less Equal p e = inr (refl, e)
 then_less Greater p e = inl e
 
 then_equal : (o p : Ordering) → ordering_then o p ≡ Equal → (o ≡ Equal) × (p ≡ Equal)
-then_equal Less p e = absurd (let z : ◌≡◌ {A = ℕ} 0 1 = cc in omega arith)
+then_equal Less p e = cc
 then_equal Equal p e = (refl, e)
-then_equal Greater p e = absurd (let z : ◌≡◌ {A = ℕ} 0 1 = cc in omega arith)
-
-then_flips : (o p : Ordering) → ordering_then (ordering_reverse o) (ordering_reverse p) ≡ ordering_reverse (ordering_then o p)
-then_flips Less p = refl
-then_flips Equal p = refl
-then_flips Greater p = refl
-
-compared_flips : (a b : List ℕ) → compared b a ≡ ordering_reverse (compared a b)
-compared_flips [] [] = refl
-compared_flips [] (y ∷ ys) = refl
-compared_flips (x ∷ xs) [] = refl
-compared_flips (x ∷ xs) (y ∷ ys) =
-    ap₂ ordering_then (number_flips x y) (compared_flips xs ys) ∙ then_flips (number x y) (compared xs ys)
+then_equal Greater p e = cc
 
 compared_same : (a b : List ℕ) → compared a b ≡ Equal → a ≡ b
 compared_same [] [] e = refl
-compared_same [] (y ∷ ys) e = absurd (let z : ◌≡◌ {A = ℕ} 0 1 = cc in omega arith)
-compared_same (x ∷ xs) [] e = absurd (let z : ◌≡◌ {A = ℕ} 0 1 = cc in omega arith)
+compared_same [] (y ∷ ys) e = cc
+compared_same (x ∷ xs) [] e = cc
 compared_same (x ∷ xs) (y ∷ ys) e =
     let h = then_equal (number x y) (compared xs ys) e in
     ap₂ (λ x xs. x ∷ xs) (number_same x y h.0) (compared_same xs ys h.1)
 
-compared_leads : (a b c : List ℕ) → compared a b ≡ Less → compared b c ≡ Less → compared a c ≡ Less
-compared_leads [] [] c p q = q
-compared_leads [] (y ∷ ys) [] p q = absurd (let z : ◌≡◌ {A = ℕ} 0 1 = cc in omega arith)
-compared_leads [] (y ∷ ys) (z ∷ zs) p q = refl
-compared_leads (x ∷ xs) [] c p q = absurd (let z : ◌≡◌ {A = ℕ} 0 1 = cc in omega arith)
-compared_leads (x ∷ xs) (y ∷ ys) [] p q = absurd (let z : ◌≡◌ {A = ℕ} 0 1 = cc in omega arith)
-compared_leads (x ∷ xs) (y ∷ ys) (z ∷ zs) p q =
-    ⊎_elim
-    (λ l. ⊎_elim (λ m. first (number_orders.leads x y z l m)) (λ m. first (sym (ap (number x) (number_same y z m.0)) ∙ l)) right)
-    (λ l. ⊎_elim (λ m. first (ap (λ n. number n z) (number_same x y l.0) ∙ m))
-    (λ m. both (ap (λ n. number n z) (number_same x y l.0) ∙ m.0) (compared_leads xs ys zs l.1 m.1)) right)
-    (then_less (number x y) (compared xs ys) p)
-  where
-    right : (number y z ≡ Less) ⊎ ((number y z ≡ Equal) × (compared ys zs ≡ Less))
-    right = then_less (number y z) (compared ys zs) q
-
-    first : number x z ≡ Less → ordering_then (number x z) (compared xs zs) ≡ Less
-    first e = ap (λ o. ordering_then o (compared xs zs)) e
-
-    both : number x z ≡ Equal → compared xs zs ≡ Less → ordering_then (number x z) (compared xs zs) ≡ Less
-    both e f = ap₂ ordering_then e f
-
-compared_orders : Orders compared
-compared_orders = record { flips = compared_flips; same = compared_same; leads = compared_leads }
-
 -- ---- one comparison after another
 
 -- by a comparison of keys, and at equal keys by a test that decides
-settled_strict : {A : Type 0} (cmp : A → A → Ordering) (key : ℕ → A) (test : ℕ → ℕ → Bool) → Orders cmp → Strict test
+settled_strict : {A : Type 0} (cmp : A → A → Ordering) (key : ℕ → A) (test : ℕ → ℕ → Bool)
+    → IsTotalOrder cmp → ((a b : A) → cmp a b ≡ Equal → a ≡ b) → Strict test
     → Strict (λ i j. settled (cmp (key i) (key j)) (test i j))
-settled_strict {A} cmp key test o s = record {
+settled_strict {A} cmp key test o same s = record {
   leads = λ i j k p q. leads i j k (cmp (key i) (key j)) refl p (cmp (key j) (key k)) refl q;
   decides = λ i j ne e. decides i j ne (cmp (key i) (key j)) refl e;
 }
@@ -124,14 +64,14 @@ settled_strict {A} cmp key test o s = record {
     leads : (i j k : ℕ) (a : Ordering) → cmp (key i) (key j) ≡ a → settled a (test i j) ≡ true
         → (b : Ordering) → cmp (key j) (key k) ≡ b → settled b (test j k) ≡ true
         → settled (cmp (key i) (key k)) (test i k) ≡ true
-    leads i j k Less e p Less f q = ap (λ c. settled c (test i k)) (o.leads (key i) (key j) (key k) e f)
+    leads i j k Less e p Less f q = ap (λ c. settled c (test i k)) (o.trans (key i) (key j) (key k) e f)
     leads i j k Less e p Equal f q =
-        ap (λ c. settled c (test i k)) (ap (cmp (key i)) (sym (o.same (key j) (key k) f)) ∙ e)
+        ap (λ c. settled c (test i k)) (ap (cmp (key i)) (sym (same (key j) (key k) f)) ∙ e)
     leads i j k Less e p Greater f q = absurd (both_ways false refl q)
     leads i j k Equal e p Less f q =
-        ap (λ c. settled c (test i k)) (ap (λ a. cmp a (key k)) (o.same (key i) (key j) e) ∙ f)
+        ap (λ c. settled c (test i k)) (ap (λ a. cmp a (key k)) (same (key i) (key j) e) ∙ f)
     leads i j k Equal e p Equal f q =
-        ap (λ c. settled c (test i k)) (ap (λ a. cmp a (key k)) (o.same (key i) (key j) e) ∙ f) ∙ s.leads i j k p q
+        ap (λ c. settled c (test i k)) (ap (λ a. cmp a (key k)) (same (key i) (key j) e) ∙ f) ∙ s.leads i j k p q
     leads i j k Equal e p Greater f q = absurd (both_ways false refl q)
     leads i j k Greater e p b f q = absurd (both_ways false refl p)
 
@@ -139,9 +79,9 @@ settled_strict {A} cmp key test o s = record {
         → settled (cmp (key j) (key i)) (test j i) ≡ true
     decides i j ne Less e f = absurd (both_ways true f refl)
     decides i j ne Equal e f =
-        ap (λ c. settled c (test j i)) (o.flips (key i) (key j) ∙ ap ordering_reverse e) ∙ s.decides i j ne f
+        ap (λ c. settled c (test j i)) (o.antisymm (key j) (key i) ∙ ap ordering_reverse e) ∙ s.decides i j ne f
     decides i j ne Greater e f =
-        ap (λ c. settled c (test j i)) (o.flips (key i) (key j) ∙ ap ordering_reverse e)
+        ap (λ c. settled c (test j i)) (o.antisymm (key j) (key i) ∙ ap ordering_reverse e)
 
 places_strict : Strict ltb
 places_strict = record {
@@ -150,28 +90,28 @@ places_strict = record {
 }
 
 pub by_name_strict : (u : Units) → Strict (by_name u)
-by_name_strict u = settled_strict compared u.name ltb compared_orders places_strict
+by_name_strict u = settled_strict compared u.name ltb compared_total compared_same places_strict
 
 pub earlier_strict : (u : Units) → Strict (earlier u)
-earlier_strict u = settled_strict number u.rank (by_name u) number_orders (by_name_strict u)
+earlier_strict u = settled_strict number u.rank (by_name u) number_total number_same (by_name_strict u)
 
 -- ---- in the words of the rule
 
 pub name_less : (a b : List ℕ) → compared a b ≡ Less → NameLess a b
-name_less [] [] e = absurd (let z : ◌≡◌ {A = ℕ} 0 1 = cc in omega arith)
+name_less [] [] e = cc
 name_less [] (y ∷ ys) e = tt
-name_less (x ∷ xs) [] e = absurd (let z : ◌≡◌ {A = ℕ} 0 1 = cc in omega arith)
+name_less (x ∷ xs) [] e = cc
 name_less (x ∷ xs) (y ∷ ys) e =
     ⊎_elim (λ l. inl (number_is_less x y l)) (λ l. inr (number_same x y l.0, name_less xs ys l.1))
     (then_less (number x y) (compared xs ys) e)
 
 pub name_ranked : (a b : List ℕ) → MatchOrdering (compared a b) (NameLess a b) (a ≡ b) (NameLess b a)
-name_ranked a b = ranked (compared a b) refl
+name_ranked a b = told (compared a b) refl
   where
-    ranked : (o : Ordering) → compared a b ≡ o → MatchOrdering o (NameLess a b) (a ≡ b) (NameLess b a)
-    ranked Less e = name_less a b e
-    ranked Equal e = compared_same a b e
-    ranked Greater e = name_less b a (compared_flips a b ∙ ap ordering_reverse e)
+    told : (o : Ordering) → compared a b ≡ o → MatchOrdering o (NameLess a b) (a ≡ b) (NameLess b a)
+    told Less e = name_less a b e
+    told Equal e = compared_same a b e
+    told Greater e = name_less b a (compared_total.antisymm b a ∙ ap ordering_reverse e)
 
 -- all that is promised of an answer follows from its equation
 pub named : (a b : List ℕ) (o : Ordering) → o ≡ compared a b

@@ -1,6 +1,7 @@
 -- Load orders, unit by unit.
 use Rattle.std.proofs.Common.{◌≡◌, ℕ, zero, suc, ◌<◌, Bool, true, false, not, ◌&&◌, ◌||◌, eqb, ltb, List, [], ◌∷◌, ◌++◌, length, get_or, Decides, sym, refl, ap, ◌∙◌, subst, ⊎_elim, arith}
 use mathlib.Core.Path.{fun_ext}
+use Rattle.std.proofs.Math.Bool.{or_assoc, or_comm, or-false}
 use Rattle.std.proofs.lemmas.List.{append_assoc, append-nil}
 use Rattle.std.proofs.lemmas.Bool.{and_parts, and_from, lt-ltb, ltb-true, not-true, not_from_false, both_ways, or_cases, or_left, or_right, eq-eqb, eqb-true}
 use Rattle.std.proofs.lemmas.Bool.Decides.{Decides-at}
@@ -55,25 +56,12 @@ has_front (x ∷ xs) back i h =
     (λ h. or_right (eqb x i) (has (xs ++ back) i) (has_front xs back i h))
     (or_cases (eqb x i) (has xs i) h)
 
-or_false : (b : Bool) → (b || false) ≡ b
-or_false true = refl
-or_false false = refl
-
 or_moves : (x y z : Bool) → (y || (x || z)) ≡ ((x || y) || z)
-or_moves true true z = refl
-or_moves true false z = refl
-or_moves false true z = refl
-or_moves false false z = refl
+or_moves x y z = sym (or_assoc y x z) ∙ ap (λ b. b || z) (or_comm y x)
 
 pub has_push : (front : List ℕ) (i j : ℕ) → has (front ++ i ∷ []) j ≡ also (has front) i j
 has_push [] i j = refl
-has_push (x ∷ xs) i j = ap (λ b. eqb x j || b) (has_push xs i j) ∙ swaps (eqb x j) (eqb i j) (has xs j)
-  where
-    swaps : (a b c : Bool) → (a || (b || c)) ≡ (b || (a || c))
-    swaps true true c = refl
-    swaps true false c = refl
-    swaps false true c = refl
-    swaps false false c = refl
+has_push (x ∷ xs) i j = ap (λ b. eqb x j || b) (has_push xs i j) ∙ or_moves (eqb i j) (eqb x j) (has xs j) ∙ or_assoc (eqb i j) (eqb x j) (has xs j)
 
 pub has_at : (ps : List ℕ) (k : ℕ) → k < length ps → has ps (get_or ps k 0) ≡ true
 has_at [] k l = absurd (omega arith)
@@ -119,13 +107,10 @@ runs_every u placed [] r i l = r i l
 runs_every u placed (q ∷ qs) r i l =
     sym (or_moves (eqb q i) (has qs i) (placed i)) ∙ runs_every u (also placed q) qs r.1 i l
 
-no_cons : {x : ℕ} {xs : List ℕ} → [] ≡ x ∷ xs → ⊥
-no_cons {x} {xs} e = let z : ◌≡◌ {A = ℕ} 0 1 = cc in omega arith
-
 runs_split : (u : Units) (placed : ℕ → Bool) (ps : List ℕ) → Runs u placed ps
     → (front : List ℕ) (i : ℕ) (rest : List ℕ) → ps ≡ front ++ i ∷ rest → ready u (λ j. has front j || placed j) i ≡ true
-runs_split u placed [] r [] i rest e = absurd (no_cons e)
-runs_split u placed [] r (f ∷ fs) i rest e = absurd (no_cons e)
+runs_split u placed [] r [] i rest e = cc
+runs_split u placed [] r (f ∷ fs) i rest e = cc
 runs_split u placed (q ∷ qs) r [] i rest e =
     let same : q ≡ i = cc in subst (λ n. ready u placed n ≡ true) same r.0
 runs_split u placed (q ∷ qs) r (f ∷ fs) i rest e =
@@ -138,14 +123,14 @@ runs_split u placed (q ∷ qs) r (f ∷ fs) i rest e =
 pub order_from : (u : Units) (ps : List ℕ) → Runs u (has []) ps → LoadOrder u ps
 order_from u ps r = record {
   units = runs_units u (has []) ps r;
-  every = λ i l. sym (or_false (has ps i)) ∙ runs_every u (has []) ps r i l;
+  every = λ i l. sym (or-false (has ps i)) ∙ runs_every u (has []) ps r i l;
   once = λ front i rest e. (ready_told u (has front) i (split front i rest e)).unplaced;
   behind = λ front i rest e. let r = ready_told u (has front) i (split front i rest e) in (r.stored, r.behind);
 }
   where
     split : (front : List ℕ) (i : ℕ) (rest : List ℕ) → ps ≡ front ++ i ∷ rest → ready u (has front) i ≡ true
     split front i rest e =
-        subst (λ p. ready u p i ≡ true) (fun_ext (λ j. or_false (has front j))) (runs_split u (has []) ps r front i rest e)
+        subst (λ p. ready u p i ≡ true) (fun_ext (λ j. or-false (has front j))) (runs_split u (has []) ps r front i rest e)
 
 -- ---- units that have a load order name no missing unit, and none reaches itself
 

@@ -1,5 +1,5 @@
 -- What arranging answers.
-use Rattle.std.specs.Prelude.{◌≡◌, ℕ, ◌-◌, ◌<◌, true, cond, List, ◌++◌, length, take, replicate, Some, None, Ok, Err, Option, Result, nat_lt, slice_index}
+use Rattle.std.specs.Prelude.{◌≡◌, ℕ, ◌<◌, true, cond, List, length, Some, None, Ok, Err, Option, Result, nat_lt, slice_index}
 use Rattle.order.specs.declared.Order.{Order}
 use Rattle.order.specs.declared.Fault.{Fault}
 use Rattle.order.specs.declared.Fault.TheVariants.{TooMany, Missing, Cycle}
@@ -7,10 +7,6 @@ use Rattle.order.specs.Units.{Units}
 use Rattle.order.specs.Picking.{load_order}
 use Rattle.order.specs.Reaching.{missing, cycle, Reaches}
 use Rattle.order.specs.Law.{LoadOrder, Least, Complete, Acyclic, LeastNamed}
-
--- an order as it is handed out: 16 places, 0 behind the last
-abbrev pub order_of_places : List ℕ → Order
-order_of_places ps = record { places = ps ++ replicate (16 - length ps) 0; count = length ps }
 
 -- the number of the question that is answered with no: 10 asks for missing units, 11 for units that reach themselves
 abbrev pub question : Fault → Option ℕ
@@ -29,17 +25,16 @@ arranged u =
     cond (nat_lt 16 u.count) (Err TooMany)
     (unless (missing u) Missing
     (unless (cycle u) Cycle
-    (Ok (order_of_places (load_order u)))))
+    (Ok (load_order u))))
 
 -- an order of n units has n places below n
 abbrev pub Fits : ℕ → Result Order Fault → Type 0
-Fits n (Ok o) = (o.count ≡ n) × ((k : ℕ) → k < n → slice_index o.places k < n)
+Fits n (Ok ps) = (length ps ≡ n) × ((k : ℕ) → k < n → slice_index ps k < n)
 Fits n (Err fault) = Unit {0}
 
 -- what the answer means, case by case
 abbrev pub Means : Units → Result Order Fault → Type 0
-Means u (Ok o) =
-    Complete u × Acyclic u × LoadOrder u (take o.count o.places) × Least u (take o.count o.places)
+Means u (Ok ps) = Complete u × Acyclic u × LoadOrder u ps × Least u ps
 Means u (Err TooMany) = 16 < u.count
 Means u (Err (Missing i)) = LeastNamed u (λ j. u.lacks j ≡ true) i × ((ps : List ℕ) → LoadOrder u ps → ⊥)
 Means u (Err (Cycle i)) = Complete u × LeastNamed u (λ j. Reaches u j j) i × ((ps : List ℕ) → LoadOrder u ps → ⊥)

@@ -1,7 +1,7 @@
 //! Which of two units comes first: by rank, then by name.
 
 ghost use Rattle.std.specs.Prelude.{◌≡◌, Decides};
-ghost use Rattle.std.specs.Ordering.{MatchOrdering, nat_cmp, ordering_then};
+ghost use Rattle.std.specs.Ordering.{MatchOrdering};
 ghost use Rattle.order.specs.Compare.{NameLess, TupleFirst, compared, by_name, tuple_before};
 ghost use Rattle.order.specs.Seen.{seen};
 
@@ -27,18 +27,13 @@ fn name_at<'a>(units: &[Unit<'a>], place: usize) -> &'a [u8]
     }
 }
 
-/// Compares the units at two places by name; units of one name go by their places.
-fn compare_named(units: &[Unit<'_>], i: usize, j: usize) -> Ordering
-    ensures { result ≡ ordering_then (compared ((seen units.now).name i) ((seen units.now).name j)) (nat_cmp i j) }
-{
-    compare_names(name_at(units, i), name_at(units, j)).then(i.cmp(&j))
-}
-
 /// Whether the unit at i comes before the one at j by name; units of one name go by their places.
 pub(crate) fn name_before(units: &[Unit<'_>], i: usize, j: usize) -> bool
     ensures { result ≡ by_name (seen units.now) i j }
 {
-    compare_named(units, i, j).is_lt()
+    compare_names(name_at(units, i), name_at(units, j))
+        .then(i.cmp(&j))
+        .is_lt()
 }
 
 /// Whether the first of two tuples of rank and place comes before the second: by rank, then by the names of the

@@ -5,7 +5,7 @@ ghost use Rattle.std.specs.Prelude.{◌≤◌, length};
 use crate::{Fault, MOST, Unit};
 
 /// Units, of which there are at most 16.
-#[derive(Clone, Copy)]
+#[derive(Clone, Copy, PartialEq, Eq, Debug)]
 pub(crate) struct Few<'a> {
     pub(crate) units: &'a [Unit<'a>],
     ghost few: { length units.now ≤ 16 },

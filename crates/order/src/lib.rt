@@ -11,8 +11,8 @@ mod picking;
 #[cfg(test)]
 mod tests;
 
-ghost use Rattle.std.specs.Prelude.{◌≡◌, ◌≤◌, length, if◌then◌else◌, Ok, Err, nat_lt};
-ghost use Rattle.order.specs.Answer.{arranged, order_of_places, question, unless, Fits, Means};
+ghost use Rattle.std.specs.Prelude.{◌≡◌, ◌<◌, [], ◌∷◌, ◌++◌, length};
+ghost use Rattle.order.specs.Answer.{arranged, question, Fits, Means};
 ghost use Rattle.order.specs.Law.{ExistsExactly};
 ghost use Rattle.order.specs.Picking.{load_order};
 ghost use Rattle.order.specs.Reaching.{missing as missing_of, cycle as cycle_of};
@@ -24,6 +24,7 @@ use few::Few;
 pub use marks::add_mark;
 use marks::with;
 pub use picking::{pick, ready};
+use std::marker::Model;
 
 /// Units at most: one bit of a `u16` for each.
 pub const MOST: usize = 16;
@@ -39,11 +40,60 @@ pub struct Unit<'a> {
     pub misses: bool,
 }
 
-/// A load order: the places of the units, the first `count` of them, with 0 behind.
-#[derive(Clone, Copy)]
+// The buffer and the length stand in this type alone: an `ArrayVec` is not `Copy`, as a load order is.
+/// A load order: the places of at most 16 units, in the order in which they load.
+#[derive(Clone, Copy, PartialEq, Eq, Debug)]
 pub struct Order {
-    pub places: [u8; 16],
-    pub count: usize,
+    places: [u8; 16],
+    len: usize,
+}
+
+impl Model for Order {
+    ghost use Rattle.std.specs.Prelude.{◌≡◌, ℕ, ◌-◌, ◌≤◌, List, ◌++◌, length, take, drop, replicate};
+    ghost use Rattle.std.proofs.Common.{sym, ap, ◌∙◌, arith, take-append-drop, length-take-le};
+
+    ghost Value = { List ℕ };
+
+    ghost view = { λ o. take o.len o.places };
+
+    ghost invariant = { λ o. (o.len ≤ 16) × (length o.places ≡ 16) × (drop o.len o.places ≡ replicate (16 - o.len) 0) };
+
+    ghost inverse = { λ ps. record { places = ps ++ replicate (16 - length ps) 0; len = length ps } };
+
+    ghost inverse_ok = { λ o h i. record {
+      places = (ap (λ n. take o.len o.places ++ replicate (16 - n) 0) (length-take-le o.len o.places (omega (arith, h.0, h.1)))
+          ∙ ap (λ l. take o.len o.places ++ l) (sym h.2)
+          ∙ take-append-drop o.len o.places) i;
+      len = length-take-le o.len o.places (omega (arith, h.0, h.1)) i;
+    } };
+}
+
+impl Order {
+    /// The order of no units. One step.
+    pub(crate) fn new() -> Order
+        ensures { result ≡ [] }
+    {
+        Order {
+            places: [0; MOST],
+            len: 0,
+        }
+    }
+
+    /// Puts one more place behind the others. One step.
+    pub(crate) fn push(&mut self, place: u8)
+        requires { length self.old < 16 }
+        ensures { self.new ≡ self.old ++ place ∷ [] }
+    {
+        self.places[self.len] = place;
+        self.len += 1;
+    }
+
+    /// The places, first those that load first. One step.
+    pub fn as_slice(&self) -> &[u8]
+        ensures { result.now ≡ self.now }
+    {
+        &self.places[..self.len]
+    }
 }
 
 /// Why there is no load order.
@@ -60,6 +110,7 @@ pub enum Fault {
 impl Fault {
     /// The number of the question that such units answer with no. More than 16 units have none: a store never holds
     /// them. One step.
+    // The numbers are the rule's, case by case; a conversion would say no more.
     pub fn number(self) -> Option<u8>
         ensures { result ≡ question self }
     {
@@ -74,21 +125,18 @@ impl Fault {
 impl Few<'_> {
     /// The units in the order in which they are picked, until none is ready. For each unit a pick.
     fn in_turn(self) -> Order
-        ensures { result ≡ order_of_places (load_order (seen self.entry.units.now)) }
+        ensures { result ≡ load_order (seen self.entry.units.now) }
     {
-        let mut places = [0u8; 16];
+        let mut order = Order::new();
         let mut placed = 0u16;
-        for count in 0..self.units.len() {
+        for _ in self.units {
             let Some((_, place)) = pick(self.units, placed) else {
-                return Order { places, count };
+                break;
             };
-            places[count] = place as u8;
+            order.push(place as u8);
             placed = with(placed, place);
         }
-        Order {
-            places,
-            count: self.units.len(),
-        }
+        order
     }
 }
 

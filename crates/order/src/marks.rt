@@ -6,6 +6,9 @@ ghost use Rattle.order.specs.Seen.{bit};
 
 use crate::MOST;
 
+// Marks stay a `u16`: the public fields and functions have them so, and a type round it would be put on and taken off
+// at each of them.
+
 /// Whether a place is marked. One step.
 pub(crate) fn has(marks: u16, place: usize) -> bool
     ensures { result ≡ bit marks place }

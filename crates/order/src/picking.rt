@@ -3,7 +3,7 @@
 ghost use Rattle.std.specs.Prelude.{◌≡◌, ◌/◌, ◌^◌, ◌<◌, not, length, IfSome, Decides, ◌==◌};
 ghost use Rattle.std.specs.Option.{option_map};
 ghost use Rattle.order.specs.Compare.{tuple};
-ghost use Rattle.order.specs.Picking.{Picked, Ready, named_placed, next};
+ghost use Rattle.order.specs.Picking.{Picked, Ready, next};
 ghost use Rattle.order.specs.Picking.{ready as is_ready};
 ghost use Rattle.order.specs.Seen.{bit, seen};
 
@@ -18,6 +18,7 @@ fn beyond(marks: u16, count: usize) -> bool
     count < MOST && marks >> count != 0
 }
 
+// A slice and a place are two parameters, as of the public `ready`: a type of both would be taken apart in each.
 /// Whether the unit at a place names a unit that is not stored. A few steps.
 pub(crate) fn lacks(units: &[Unit<'_>], i: usize) -> bool
     ensures { result ≡ (seen units.now).lacks i }
@@ -28,21 +29,16 @@ pub(crate) fn lacks(units: &[Unit<'_>], i: usize) -> bool
     }
 }
 
-/// Whether all units that the unit at a place names are placed. A few steps.
-fn named_placed(units: &[Unit<'_>], placed: u16, i: usize) -> bool
-    requires { i < length units.now }
-    ensures { result ≡ named_placed (seen units.now) (bit placed) i }
-{
-    !lacks(units, i) && within(units[i].needs, placed)
-}
-
 /// Whether the unit at a place is ready: there is one, it is not placed, and all units that it names are placed.
 /// A few steps.
 pub fn ready(units: &[Unit<'_>], placed: u16, i: usize) -> bool
     ensures value { result ≡ is_ready (seen units.now) (bit placed) i }
     ensures law { Decides result (Ready (seen units.now) (bit placed) i) }
 {
-    i < units.len() && !has(placed, i) && named_placed(units, placed, i)
+    match units.get(i) {
+        Some(unit) => !has(placed, i) && !lacks(units, i) && within(unit.needs, placed),
+        None => false,
+    }
 }
 
 /// The rank and the place of the next unit: of the units that are ready, the least by rank and then by name.

@@ -11,10 +11,12 @@ fn unit(name: &[u8], rank: u8, needs: u16) -> Unit<'_> {
     }
 }
 
-/// How many places the order has, and the first three.
+/// How many places the order has, and the first three, 0 where there is none.
 fn order(units: &[Unit<'_>]) -> Result<(usize, u8, u8, u8), Fault> {
-    let o = arrange(units)?;
-    Ok((o.count, o.places[0], o.places[1], o.places[2]))
+    let order = arrange(units)?;
+    let places = order.as_slice();
+    let at = |k: usize| places.get(k).copied().unwrap_or(0);
+    Ok((places.len(), at(0), at(1), at(2)))
 }
 
 #[test]

@@ -1,10 +1,7 @@
 use Rattle.std.proofs.Common.{sym, ◌∙◌}
 use Rattle.std.proofs.lemmas.Bool.{le-ltb}
-use Rattle.order.proofs.Bit.{bit_masked, bit_past}
+use Rattle.order.proofs.Bit.{bit_past}
 use Rattle.order.proofs.marks.has.Goals as goal
-
-pub returns-then-place-lt-MOST : goal.returns-then-place-lt-MOST
-returns-then-place-lt-MOST c = bit_masked _
 
 pub returns-else-place-lt-MOST : goal.returns-else-place-lt-MOST
 returns-else-place-lt-MOST c =
