@@ -9,6 +9,8 @@ use super::bytes::{bytes_at, write_bytes};
 use super::directory::{Directory, MOST_UNITS};
 use super::edit::is_lawful;
 use super::entry::{BLANK, Entry};
+use std::error::Error;
+use std::fmt;
 
 // The bytes of a store.
 pub const STORE_BYTES: usize = 65536;
@@ -19,6 +21,14 @@ pub(crate) const RECORD_BYTES: usize = 22;
 // A store has not the bytes of a store.
 #[derive(Clone, Copy, PartialEq, Eq, Debug)]
 pub struct WrongLength;
+
+impl fmt::Display for WrongLength {
+    fn fmt<W: fmt::Write>(&self, f: &mut fmt::Formatter<W>) -> fmt::Result {
+        write!(f, "the store has not the bytes of a store")
+    }
+}
+
+impl Error for WrongLength {}
 
 // The record that stands at a place.
 fn read_entry(store: &[u8], at: usize) -> Entry

@@ -12,6 +12,8 @@ use super::entry::{Entry, LONGEST_TEXT};
 use super::layout::{STORE_BYTES, WrongLength, read, write};
 use super::name::name_number;
 use super::texts::slot;
+use std::error::Error;
+use std::fmt;
 
 // Why a store was left as it was.
 #[derive(Clone, Copy, PartialEq, Eq, Debug)]
@@ -27,6 +29,20 @@ pub enum Refusal {
     // No unit of that name is stored.
     Missing,
 }
+
+impl fmt::Display for Refusal {
+    fn fmt<W: fmt::Write>(&self, f: &mut fmt::Formatter<W>) -> fmt::Result {
+        match self {
+            Refusal::StoreLength => write!(f, "the store has not the bytes of a store"),
+            Refusal::TextLength => write!(f, "the text has too many bytes"),
+            Refusal::NoName => write!(f, "no name stands at the place told"),
+            Refusal::Full => write!(f, "16 other units are stored"),
+            Refusal::Missing => write!(f, "no unit of that name is stored"),
+        }
+    }
+}
+
+impl Error for Refusal {}
 
 impl From<WrongLength> for Refusal {
     ghost from_gives = { λ _ r. r ≡ StoreLength };

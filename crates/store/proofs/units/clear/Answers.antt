@@ -14,11 +14,7 @@ none_left : (s t : List ℕ) (r : Bool) → r ≡ eqb (length s) 65536 → t ≡
 none_left s t true a b f = f refl
 none_left s t false a b f = ap stored (b ∙ ap (λ x. cond x (laid 0 (encode []) s) s) (sym a)) ∙ other_length s (sym a)
 
-pub returns : goal.returns
-returns c =
-    let bytes : c.write.new.store ≡ written [] c.args.store.now = c.write.ensures.bytes ∙ ap (λ es. written es c.args.store.now) c.empty.ensures in
-    record {
-      answer = c.write.ensures.answer;
-      bytes = bytes;
-      law = no_units c.write.new.store (none_left c.args.store.now c.write.new.store (is_ok c.write.result) c.write.ensures.answer bytes (λ e. c.write.ensures.back e ∙ c.empty.ensures));
-    }
+pub returns-clause-law : goal.returns-clause-law
+returns-clause-law c =
+    let bytes = c.write.ensures.bytes ∙ ap (λ es. written es c.args.store.now) c.empty.ensures in
+    no_units c.write.new.store (none_left c.args.store.now c.write.new.store (is_ok c.write.result) c.write.ensures.answer bytes (λ e. c.write.ensures.back e ∙ c.empty.ensures))

@@ -1,18 +1,12 @@
-use Rattle.std.proofs.Common.{◌≡◌, ◌^◌, ◌<◌, true, false, length, sym, refl, subst, arith}
-use mathlib.Core.Bool.{false≢true}
+use Rattle.std.proofs.Common.{◌≡◌, ◌^◌, ◌<◌, true, false, length, sym, refl, subst, arith, rules}
 use Rattle.store.specs.Entries.{seat, fits, entered}
 use Rattle.store.specs.Directories.{live}
 use Rattle.store.specs.Calls.{number_in, unit_for}
 use Rattle.store.specs.Units.{units, Replaced}
 use Rattle.store.specs.declared.units.Refusal.TheVariants.{Full}
-use Rattle.store.proofs.Done.{told, name_inside, number_small, sound_for, put_full, put_refused, put_done}
+use Rattle.store.proofs.Done.{told, number_small, sound_for, put_full, put_refused, put_done}
 use Rattle.store.proofs.Members.{once_units, replaced}
 use Rattle.store.proofs.units.put.Goals as goal
-
-pub overflow_cast-e : goal.overflow_cast-e
-overflow_cast-e c =
-    let text = c.args.text.now in
-    omega (arith, (name_inside text c.args.place c.args.size (told text c.args.place c.args.size c.in-Some.name c.in-Some.ensures).0).2)
 
 pub returns-in_default-with : goal.returns-in_default-with
 returns-in_default-with c =
@@ -27,7 +21,7 @@ returns-in_default-with c =
     let ok = sound_for text place size rank n t.0 c.if-text-gt-LONGEST_TEXT.false (omega arith) (subst (λ m. m < 256 ^ 16) (sym t.1) small) in
     let full = put_full s text place size rank n c.if-store-ne-STORE_BYTES.false c.if-text-gt-LONGEST_TEXT.false t.0 t.1 ok
     (subst (λ es. fits (record { name = n; size = size; place = place; span = length text; rank = rank }) es ≡ false) c.read.ensures.records c.in_default-with.ensures) in
-    record { answer = sym full; bytes = sym (put_refused s text place size rank Full full); law = refl; replaced = λ no. absurd (false≢true no) }
+    record { answer = sym full; bytes = sym (put_refused s text place size rank Full full); law = refl; replaced = search rules }
 
 pub returns : goal.returns
 returns c =

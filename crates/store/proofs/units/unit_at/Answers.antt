@@ -1,4 +1,4 @@
-use Rattle.std.proofs.Common.{◌≡◌, ◌≤◌, length, Some, sym, ap, ◌∙◌, arith, rules}
+use Rattle.std.proofs.Common.{◌≤◌, length, sym, ap, ◌∙◌, arith}
 use Rattle.store.specs.Entries.{entry_at}
 use Rattle.store.specs.Layout.{stored}
 use Rattle.store.specs.Units.{units}
