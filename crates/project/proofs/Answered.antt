@@ -29,10 +29,10 @@ lengths_right {K} store book u e = go (right_lengths store book) refl e
     go false is h = cc
 
 -- a put of a text that reads is accepted where the store takes its unit
-pub put_told : {K : Type 0} (ws : List Word) (s : List ℕ) (b k : ℕ) (text : List ℕ) (h : Heading) (r : Result ℕ Refusal) →
+pub put_told : {K : Type 0} (ws : List Word) (s : List ℕ) (b k : ℕ) (text : List ℕ) {h : Heading} (r : Result ℕ Refusal) →
     Ok tt ≡ lengths_answer {K = K} (length s) b None → Ok h ≡ unit_answer ws text k → r ≡ put_answer s text h.place (length h.name) →
     accepted (put_outcome {K = K} ws s b k text) ≡ cond (is_ok r) (Ok tt) (Err (without Full))
-put_told {K} ws s b k text h r ok read answer =
+put_told {K} ws s b k text {h} r ok read answer =
     let right = lengths_right {K = K} (length s) b None ok in
     ap accepted (cond-true (right_lengths (length s) b) (put_among (unit_of ws text k) (units s)) (Err (without Lengths)) right)
     ∙ ap (λ (x : Result Heading ReadFault). accepted (put_among {K = K} (as_unit text x) (units s))) (sym read)
