@@ -36,9 +36,6 @@ pub record Headed (text : List ℕ) (room : ℕ) (h : Heading) : Type 0 where
   pub named : UpperName h.name
   pub ranked : h.rank < 256
 
-never : {X : Type 0} (e : ReadFault) (x : X) → ◌≡◌ {A = Result X ReadFault} (Err e) (Ok x) → ⊥
-never e x p = cc
-
 -- an upper name of a text stands there
 pub record Standing (text : List ℕ) (x : Name) (place : ℕ) : Type 0 where
   pub spelled : take (length x) (drop place text) ≡ x
@@ -93,7 +90,7 @@ heading_is (Some x) rank len h e =
 read_heading : (text : List ℕ) (o : Outcome) (st : Option ReadFault) (h : Heading) → unit_read text o st ≡ Ok h → (name_in text ≡ Some (h.name, h.place)) × (o ≡ accepted h.rank)
 read_heading text (accepted rank) None h e =
     let p = heading_is (name_in text) rank (length text) h e in (p.0, ap (λ (r : ℕ). accepted r) p.1)
-read_heading text (accepted rank) (Some x) h e = absurd (never x h e)
+read_heading text (accepted rank) (Some x) h e = cc
 read_heading text (refused place) st h e = cc
 
 asked_yes : {X : Type 0} (room len : ℕ) (rest : Result X ReadFault) (x : X) → asked room len rest ≡ Ok x → (room ≡ 65536) × (len ≤ 4000) × (rest ≡ Ok x)
@@ -101,8 +98,8 @@ asked_yes {X} room len rest x e = go (eqb room 65536) (leb len 4000) refl refl e
   where
     go : (a b : Bool) → eqb room 65536 ≡ a → leb len 4000 ≡ b → cond a (cond b rest (Err ReadFault.TooLong)) (Err ReadFault.Scratch) ≡ Ok x → (room ≡ 65536) × (len ≤ 4000) × (rest ≡ Ok x)
     go true true p q h = (eqb-true room 65536 p, leb-true len 4000 q, h)
-    go true false p q h = absurd (never ReadFault.TooLong x h)
-    go false b p q h = absurd (never ReadFault.Scratch x h)
+    go true false p q h = cc
+    go false b p q h = cc
 
 pub heading_read : (ws : List Word) (text : List ℕ) (room : ℕ) (h : Heading) → unit_answer ws text room ≡ Ok h → Headed text room h
 heading_read ws text room h e =
