@@ -11,7 +11,6 @@ use Rattle.store.specs.Layout.{stored}
 use Rattle.store.specs.Names.{name_number, number_of}
 use Rattle.store.specs.Units.{units, put_in, taken_out}
 use Rattle.store.specs.Calls.{put_answer, remove_answer}
-use Rattle.store.proofs.Holding.{length_held}
 use Rattle.project.specs.declared.fault.Question.TheVariants.{Lengths, Full, NotStored}
 use Rattle.project.specs.declared.fault.Fault.{Fault}
 use Rattle.project.specs.Faults.{about, without}
@@ -59,7 +58,3 @@ drop_told {K} s b name o n r ok named answer =
         ≡ cond (is_ok (cond t (Ok (seat n (stored s))) (Err Missing))) (Ok tt) (Err (about (Some n) NotStored))
     both true = refl
     both false = refl
-
--- the count of the records is that of the units
-pub count_is : (n : ℕ) (s : List ℕ) → n ≡ length (stored s) → n ≡ length (units s)
-count_is n s e = e ∙ sym (length_held (stored s) s)

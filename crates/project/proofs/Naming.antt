@@ -1,6 +1,7 @@
 -- What heads name, head by head.
-use Rattle.std.proofs.Common.{◌≡◌, ℕ, ◌+◌, ◌%◌, ◌^◌, ◌<◌, ◌≤◌, Bool, true, false, cond, ◌||◌, eqb, List, [], ◌∷◌, ◌++◌, length, get_or, take, Some, None, Option, sym, refl, ap, ◌∙◌, subst, ap₂}
+use Rattle.std.proofs.Common.{◌≡◌, ℕ, ◌+◌, ◌%◌, ◌^◌, ◌<◌, ◌≤◌, Bool, true, false, cond, ◌||◌, eqb, List, [], ◌∷◌, ◌++◌, length, get_or, take, Some, None, Option, sym, refl, ap, ◌∙◌, subst, ap₂, arith}
 use native.Mathlib.Nat.{zero-div}
+use Rattle.std.proofs.Math.Bool.{or_assoc}
 use Rattle.std.proofs.lemmas.List.{take_more, take_all}
 use Rattle.store.specs.declared.entry.Entry.{Entry}
 use Rattle.order.specs.Seen.{bit}
@@ -12,16 +13,8 @@ use Rattle.project.specs.Loading.{head_number}
 use Rattle.project.specs.Naming.{seat_of, is_seat, is_none, first_or, NamingOf}
 
 some_last : {A : Type 0} (test : A → Bool) (l : List A) (a : A) → some test (l ++ a ∷ []) ≡ (some test l || test a)
-some_last test [] a = or_false (test a)
-  where
-    or_false : (b : Bool) → (b || false) ≡ (false || b)
-    or_false true = refl
-    or_false false = refl
-some_last test (b ∷ l) a = ap (λ (t : Bool). test b || t) (some_last test l a) ∙ or_assoc (test b) (some test l) (test a)
-  where
-    or_assoc : (x y z : Bool) → (x || (y || z)) ≡ ((x || y) || z)
-    or_assoc true y z = refl
-    or_assoc false y z = refl
+some_last test [] a = grind arith
+some_last test (b ∷ l) a = ap (λ (t : Bool). test b || t) (some_last test l a) ∙ sym (or_assoc (test b) (some test l) (test a))
 
 first_or_lem : (o : Option ℕ) (told : Bool) (p : ℕ) → first_of o (cond told (Some p) None) ≡ first_or o told p
 first_or_lem None told p = refl

@@ -1,4 +1,5 @@
-use Rattle.std.proofs.Common.{◌≡◌, ℕ, Some, None, Option, unwrap_or, sym, refl, ap, ◌∙◌}
+use Rattle.std.proofs.Common.{◌≡◌, ℕ, Some, None, Option, unwrap_or, refl, ap, ◌∙◌, arith}
+use Rattle.std.proofs.lemmas.Grind.{common_steps}
 use Rattle.store.specs.Units.{units}
 use Rattle.project.specs.declared.fault.Question.TheVariants.{UnitMissing}
 use Rattle.project.specs.Faults.{about}
@@ -18,6 +19,4 @@ returns-in-Missing g c =
     let f = c.named-found.result in
     let place : c.unwrap_or.result ≡ first_strange ws (units s) c.in-Missing.i =
     c.unwrap_or.ensures ∙ value_or f.missing ∙ ap place_or (named_missing ws s u.text f c.named-found.ensures).0 in
-    let here : order_fault {K = g.row.C-Cause.Denot} ws (units s) c.args.e ≡ about (Some u.name) (UnitMissing (first_strange ws (units s) c.in-Missing.i)) =
-    ap (order_fault ws (units s)) c.in-Missing.is in
-    c.about.ensures ∙ ap (λ (p : ℕ). about (Some u.name) (UnitMissing p)) place ∙ sym here
+    grind (arith, common_steps, place)
