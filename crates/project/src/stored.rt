@@ -107,12 +107,7 @@ impl<'a> Stored<'a> {
 
     // What the text of the unit at a place names; a text that is no unit names nothing. Linear in the text times what is declared
     // around its names, with a look into the directory for each head.
-    fn named<C: Core>(
-        &self,
-        core: &C,
-        scratch: &mut [u32; SCRATCH_WORDS],
-        i: usize,
-    ) -> Naming
+    fn named<C: Core>(&self, core: &C, scratch: &mut [u32; SCRATCH_WORDS], i: usize) -> Naming
         ensures { NamingOf (stored self.now.store.now) (unit_at (units_of self.now.store.now) i).text (heads_of C.Core.words (unit_at (units_of self.now.store.now) i).text) result }
     {
         let text = self.text(i);

@@ -20,7 +20,7 @@ returns-in_err-heading-clause-register g c = register_law g.row.C-Cause.Denot g.
 pub returns-in_err-map_err-clause-answer : goal.returns-in_err-map_err-clause-answer
 returns-in_err-map_err-clause-answer g c =
     let t = put_told {K = g.row.C-Cause.Denot} g.C.Core.words c.args.store.now (length c.args.book.now) (length c.args.scratch.now) c.args.text.now c.put-stored.result
-        c.in_ok-lengths.ensures c.in_ok-heading.ensures.answer c.put-stored.ensures.answer in
+    c.in_ok-lengths.ensures c.in_ok-heading.ensures.answer c.put-stored.ensures.answer in
     grind (arith, common_steps, t)
 
 pub returns-in_err-map_err-clause-law : goal.returns-in_err-map_err-clause-law
@@ -32,7 +32,7 @@ returns-in_err-map_err-clause-register g c = register_law g.row.C-Cause.Denot g.
 pub returns-clause-answer : goal.returns-clause-answer
 returns-clause-answer g c =
     let t = put_told {K = g.row.C-Cause.Denot} g.C.Core.words c.args.store.now (length c.args.book.now) (length c.args.scratch.now) c.args.text.now c.put-stored.result
-        c.in_ok-lengths.ensures c.in_ok-heading.ensures.answer c.put-stored.ensures.answer in
+    c.in_ok-lengths.ensures c.in_ok-heading.ensures.answer c.put-stored.ensures.answer in
     grind (arith, common_steps, t)
 
 pub returns-clause-law : goal.returns-clause-law

@@ -1,5 +1,5 @@
-use Rattle.std.proofs.Common.{ap, ◌∙◌, arith}
-use Rattle.store.specs.declared.entry.Entry.{Entry}
+use Rattle.std.proofs.Common.{◌∙◌, arith}
+use Rattle.std.proofs.lemmas.Grind.{common_steps}
 use Rattle.store.specs.Units.{units}
 use Rattle.project.specs.Loading.{unit_at}
 use Rattle.project.proofs.Viewed.{named_needs, named_within, named_missing, rank_is}
@@ -13,7 +13,7 @@ returns g c =
     let f = c.named-found.result in
     let n = c.named-found.ensures in
     record {
-      rank = ap (λ (e : Entry). e.rank) c.entry.ensures ∙ rank_is s c.args.i;
+      rank = grind (arith, common_steps, rank_is);
       name = c.name.ensures;
       needs = named_needs ws s text f n;
       within = named_within ws s text f n (omega arith);
