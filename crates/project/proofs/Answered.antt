@@ -11,7 +11,6 @@ use Rattle.store.specs.Layout.{stored}
 use Rattle.store.specs.Names.{name_number, number_of}
 use Rattle.store.specs.Units.{units, put_in, taken_out}
 use Rattle.store.specs.Calls.{put_answer, remove_answer}
-use Rattle.store.proofs.Holding.{length_held}
 use Rattle.project.specs.declared.fault.Question.TheVariants.{Lengths, Full, NotStored}
 use Rattle.project.specs.declared.fault.Fault.{Fault}
 use Rattle.project.specs.Faults.{about, without}
@@ -29,10 +28,10 @@ lengths_right {K} store book u e = go (right_lengths store book) refl e
     go false is h = cc
 
 -- a put of a text that reads is accepted where the store takes its unit
-pub put_told : {K : Type 0} (ws : List Word) (s : List ℕ) (b k : ℕ) (text : List ℕ) (h : Heading) (r : Result ℕ Refusal) →
+pub put_told : {K : Type 0} (ws : List Word) (s : List ℕ) (b k : ℕ) (text : List ℕ) {h : Heading} (r : Result ℕ Refusal) →
     Ok tt ≡ lengths_answer {K = K} (length s) b None → Ok h ≡ unit_answer ws text k → r ≡ put_answer s text h.place (length h.name) →
     accepted (put_outcome {K = K} ws s b k text) ≡ cond (is_ok r) (Ok tt) (Err (without Full))
-put_told {K} ws s b k text h r ok read answer =
+put_told {K} ws s b k text {h} r ok read answer =
     let right = lengths_right {K = K} (length s) b None ok in
     ap accepted (cond-true (right_lengths (length s) b) (put_among (unit_of ws text k) (units s)) (Err (without Lengths)) right)
     ∙ ap (λ (x : Result Heading ReadFault). accepted (put_among {K = K} (as_unit text x) (units s))) (sym read)
@@ -59,7 +58,3 @@ drop_told {K} s b name o n r ok named answer =
         ≡ cond (is_ok (cond t (Ok (seat n (stored s))) (Err Missing))) (Ok tt) (Err (about (Some n) NotStored))
     both true = refl
     both false = refl
-
--- the count of the records is that of the units
-pub count_is : (n : ℕ) (s : List ℕ) → n ≡ length (stored s) → n ≡ length (units s)
-count_is n s e = e ∙ sym (length_held (stored s) s)

@@ -36,9 +36,6 @@ pub record Headed (text : List ℕ) (room : ℕ) (h : Heading) : Type 0 where
   pub named : UpperName h.name
   pub ranked : h.rank < 256
 
-never : {X : Type 0} (e : ReadFault) (x : X) → ◌≡◌ {A = Result X ReadFault} (Err e) (Ok x) → ⊥
-never e x p = let z : ◌≡◌ {A = ℕ} 0 1 = cc in omega arith
-
 -- an upper name of a text stands there
 pub record Standing (text : List ℕ) (x : Name) (place : ℕ) : Type 0 where
   pub spelled : take (length x) (drop place text) ≡ x
@@ -59,33 +56,33 @@ upper_stands text from place end x e =
     }
 
 piece_upper : (p : Piece) (place end : ℕ) (x : Name) (at : ℕ) → upper_piece p place ≡ Some (x, at) → token p place end ≡ token (upper x) at end
-piece_upper (blank b) place end x at e = let z : ◌≡◌ {A = ℕ} 0 1 = cc in absurd (omega arith)
-piece_upper (mark m) place end x at e = let z : ◌≡◌ {A = ℕ} 0 1 = cc in absurd (omega arith)
-piece_upper (keyword k) place end x at e = let z : ◌≡◌ {A = ℕ} 0 1 = cc in absurd (omega arith)
-piece_upper (lower y) place end x at e = let z : ◌≡◌ {A = ℕ} 0 1 = cc in absurd (omega arith)
+piece_upper (blank b) place end x at e = cc
+piece_upper (mark m) place end x at e = cc
+piece_upper (keyword k) place end x at e = cc
+piece_upper (lower y) place end x at e = cc
 piece_upper (upper y) place end x at e =
     let same : ◌≡◌ {A = Name × ℕ} (y, place) (x, at) = cc in ap (λ (z : Name × ℕ). token (upper z.0) z.1 end) same
-piece_upper (integer ds) place end x at e = let z : ◌≡◌ {A = ℕ} 0 1 = cc in absurd (omega arith)
+piece_upper (integer ds) place end x at e = cc
 
 -- the upper name that is told behind a place stands in the text
 pub told_stands : (text : List ℕ) (from : ℕ) (x : Name) (place : ℕ) → upper_at (next_token text from) ≡ Some (x, place) → Standing text x place
 told_stands text from x place e = go (next_token text from) refl e
   where
     go : (n : Next) → next_token text from ≡ n → upper_at n ≡ Some (x, place) → Standing text x place
-    go at_end is h = let z : ◌≡◌ {A = ℕ} 0 1 = cc in absurd (omega arith)
+    go at_end is h = cc
     go (token p at end) is h = upper_stands text from place end x (is ∙ piece_upper p at end x place h)
-    go (no_token r at) is h = let z : ◌≡◌ {A = ℕ} 0 1 = cc in absurd (omega arith)
+    go (no_token r at) is h = cc
 
 name_stands : (text : List ℕ) (x : Name) (place : ℕ) → name_in text ≡ Some (x, place) → Standing text x place
 name_stands text x place e = go (next_token text 0) e
   where
     go : (n : Next) → behind_first text n ≡ Some (x, place) → Standing text x place
-    go at_end h = let z : ◌≡◌ {A = ℕ} 0 1 = cc in absurd (omega arith)
+    go at_end h = cc
     go (token p at end) h = told_stands text end x place h
-    go (no_token r at) h = let z : ◌≡◌ {A = ℕ} 0 1 = cc in absurd (omega arith)
+    go (no_token r at) h = cc
 
 heading_is : (o : Option (Name × ℕ)) (rank len : ℕ) (h : Heading) → heading_of o rank len ≡ Ok h → (o ≡ Some (h.name, h.place)) × (rank ≡ h.rank)
-heading_is None rank len h e = let z : ◌≡◌ {A = ℕ} 0 1 = cc in absurd (omega arith)
+heading_is None rank len h e = cc
 heading_is (Some x) rank len h e =
     let same : record { name = x.0; place = x.1; rank = rank } ≡ h = cc in
     (ap (λ (k : Heading). Some (k.name, k.place)) same, ap (λ (k : Heading). k.rank) same)
@@ -93,16 +90,16 @@ heading_is (Some x) rank len h e =
 read_heading : (text : List ℕ) (o : Outcome) (st : Option ReadFault) (h : Heading) → unit_read text o st ≡ Ok h → (name_in text ≡ Some (h.name, h.place)) × (o ≡ accepted h.rank)
 read_heading text (accepted rank) None h e =
     let p = heading_is (name_in text) rank (length text) h e in (p.0, ap (λ (r : ℕ). accepted r) p.1)
-read_heading text (accepted rank) (Some x) h e = absurd (never x h e)
-read_heading text (refused place) st h e = let z : ◌≡◌ {A = ℕ} 0 1 = cc in absurd (omega arith)
+read_heading text (accepted rank) (Some x) h e = cc
+read_heading text (refused place) st h e = cc
 
 asked_yes : {X : Type 0} (room len : ℕ) (rest : Result X ReadFault) (x : X) → asked room len rest ≡ Ok x → (room ≡ 65536) × (len ≤ 4000) × (rest ≡ Ok x)
 asked_yes {X} room len rest x e = go (eqb room 65536) (leb len 4000) refl refl e
   where
     go : (a b : Bool) → eqb room 65536 ≡ a → leb len 4000 ≡ b → cond a (cond b rest (Err ReadFault.TooLong)) (Err ReadFault.Scratch) ≡ Ok x → (room ≡ 65536) × (len ≤ 4000) × (rest ≡ Ok x)
     go true true p q h = (eqb-true room 65536 p, leb-true len 4000 q, h)
-    go true false p q h = absurd (never ReadFault.TooLong x h)
-    go false b p q h = absurd (never ReadFault.Scratch x h)
+    go true false p q h = cc
+    go false b p q h = cc
 
 pub heading_read : (ws : List Word) (text : List ℕ) (room : ℕ) (h : Heading) → unit_answer ws text room ≡ Ok h → Headed text room h
 heading_read ws text room h e =

@@ -1,5 +1,5 @@
 -- Put and drop mean what they should, whatever they are given.
-use Rattle.std.proofs.Common.{◌≡◌, ℕ, Bool, true, false, cond, eqb, List, length, is_ok, Some, None, Ok, Err, Option, Result, sym, refl, ap, ◌∙◌, subst, arith}
+use Rattle.std.proofs.Common.{◌≡◌, ℕ, Bool, true, false, cond, eqb, List, length, is_ok, Some, None, Ok, Err, Option, Result, sym, refl, ap, ◌∙◌, subst}
 use Rattle.std.proofs.lemmas.Bool.{eqb-true, and_parts, ltb-true}
 use Rattle.cores.specs.Meaning.{Word}
 use Rattle.reader.specs.declared.fault.ReadFault.{ReadFault}
@@ -17,12 +17,6 @@ use Rattle.project.specs.Laws.{PutMeans, DropMeans}
 use Rattle.project.proofs.Headings.{Headed, heading_read}
 use Rattle.project.proofs.Changing.{put_taken, put_refused, drop_taken, drop_refused}
 
-false_true : false ≡ true → ⊥
-false_true e = let z : ◌≡◌ {A = ℕ} 0 1 = cc in omega arith
-
-true_false : true ≡ false → ⊥
-true_false e = false_true (sym e)
-
 -- what a change of the units comes to: the old ones and every byte, or the new ones
 pub record Change {E : Type 0} (store left : List ℕ) (o : Result (List StoredUnit) E) : Type 0 where
   pub untouched : is_ok (accepted o) ≡ false → left ≡ store
@@ -35,7 +29,7 @@ same store left e is = record { untouched = λ x. is; holds = ap units is; long 
 
 -- the units changed
 other : {E : Type 0} (store left : List ℕ) (us : List StoredUnit) → units left ≡ us → length left ≡ length store → Change {E = E} store left (Ok us)
-other store left us is long = record { untouched = λ x. absurd (true_false x); holds = is; long = long }
+other store left us is long = record { untouched = λ x. cc; holds = is; long = long }
 
 pub long_is : (s : List ℕ) (b : ℕ) → right_lengths (length s) b ≡ true → length s ≡ 65536
 long_is s b e = eqb-true (length s) 65536 (and_parts (eqb (length s) 65536) (eqb b 16384) e).0
@@ -92,9 +86,9 @@ put_enters {K} ws s b k text e = go (right_lengths (length s) b) refl (unit_of {
         within : (r : Bool) → is_ok (accepted (cond r (Ok (put_in u (units s))) (Err (without {K = K} Full)))) ≡ true →
             (v : StoredUnit) × (◌≡◌ {A = Result StoredUnit (Fault K)} (Ok u) (Ok v)) × (cond r (Ok (put_in u (units s))) (Err (without {K = K} Full)) ≡ Ok (put_in v (units s)))
         within true h = (u, refl, refl)
-        within false h = absurd (false_true h)
-    go true le (Err x) oe h = absurd (false_true h)
-    go false le o oe h = absurd (false_true h)
+        within false h = cc
+    go true le (Err x) oe h = cc
+    go false le o oe h = cc
 
 -- an accepted drop takes out the unit of the name
 drop_takes : {K : Type 0} (s : List ℕ) (b : ℕ) (name : List ℕ) → is_ok (accepted (drop_outcome {K = K} s b name)) ≡ true →
@@ -104,14 +98,14 @@ drop_takes {K} s b name e = go (right_lengths (length s) b) refl (name_number na
     go : (t : Bool) → right_lengths (length s) b ≡ t → (o : Option ℕ) → name_number name ≡ o →
         is_ok (accepted (cond t (drop_among o (units s)) (Err (about {K = K} o Lengths)))) ≡ true →
         (n : ℕ) × (o ≡ Some n) × (stores n (units s) ≡ true) × (cond t (drop_among o (units s)) (Err (about {K = K} o Lengths)) ≡ Ok (taken_out n (units s)))
-    go true le None oe h = absurd (false_true h)
+    go true le None oe h = cc
     go true le (Some n) oe h = within (stores n (units s)) refl h
       where
         within : (r : Bool) → stores n (units s) ≡ r → is_ok (accepted (cond r (Ok (taken_out n (units s))) (Err (about {K = K} (Some n) NotStored)))) ≡ true →
             (m : ℕ) × (Some n ≡ Some m) × (stores m (units s) ≡ true) × (cond r (Ok (taken_out n (units s))) (Err (about {K = K} (Some n) NotStored)) ≡ Ok (taken_out m (units s)))
         within true is h = (n, refl, is, refl)
-        within false is h = absurd (false_true h)
-    go false le o oe h = absurd (false_true h)
+        within false is h = cc
+    go false le o oe h = cc
 
 pub put_means : {K : Type 0} (ws : List Word) (s : List ℕ) (b k : ℕ) (text : List ℕ) (r : Result (Unit {0}) (Fault K)) (left : List ℕ) →
     r ≡ accepted (put_outcome ws s b k text) → left ≡ put_store ws s b k text → PutMeans ws s b k text r left

@@ -1,7 +1,7 @@
 -- What heads name, head by head.
-use Rattle.std.proofs.Common.{◌≡◌, ℕ, ◌+◌, ◌%◌, ◌^◌, ◌<◌, ◌≤◌, Bool, true, false, cond, ◌||◌, eqb, List, [], ◌∷◌, ◌++◌, length, get_or, take, Some, None, Option, sym, refl, ap, ◌∙◌, subst, ap₂}
-use native.Mathlib.Nat.{zero-div}
-use Rattle.std.proofs.lemmas.List.{take_more, take_all}
+use Rattle.std.proofs.Common.{◌≡◌, ℕ, ◌+◌, ◌<◌, Bool, cond, ◌||◌, List, [], ◌∷◌, ◌++◌, length, get_or, take, Some, None, Option, sym, refl, ap, ◌∙◌, subst, ap₂, arith}
+use Rattle.std.proofs.Math.Bool.{or_assoc}
+use Rattle.std.proofs.lemmas.List.{take_more}
 use Rattle.store.specs.declared.entry.Entry.{Entry}
 use Rattle.order.specs.Seen.{bit}
 use Rattle.rules.specs.Signatures.{first_of}
@@ -12,27 +12,12 @@ use Rattle.project.specs.Loading.{head_number}
 use Rattle.project.specs.Naming.{seat_of, is_seat, is_none, first_or, NamingOf}
 
 some_last : {A : Type 0} (test : A → Bool) (l : List A) (a : A) → some test (l ++ a ∷ []) ≡ (some test l || test a)
-some_last test [] a = or_false (test a)
-  where
-    or_false : (b : Bool) → (b || false) ≡ (false || b)
-    or_false true = refl
-    or_false false = refl
-some_last test (b ∷ l) a = ap (λ (t : Bool). test b || t) (some_last test l a) ∙ or_assoc (test b) (some test l) (test a)
-  where
-    or_assoc : (x y z : Bool) → (x || (y || z)) ≡ ((x || y) || z)
-    or_assoc true y z = refl
-    or_assoc false y z = refl
+some_last test [] a = grind arith
+some_last test (b ∷ l) a = ap (λ (t : Bool). test b || t) (some_last test l a) ∙ sym (or_assoc (test b) (some test l) (test a))
 
 first_or_lem : (o : Option ℕ) (told : Bool) (p : ℕ) → first_of o (cond told (Some p) None) ≡ first_or o told p
 first_or_lem None told p = refl
 first_or_lem (Some q) told p = refl
-
--- no heads
-pub naming_none : (es : List Entry) (text : List ℕ) → NamingOf es text [] (record { needs = 0; missing = None })
-naming_none es text = record { needs = λ j h. zero_bit j; missing = refl }
-  where
-    zero_bit : (j : ℕ) → bit 0 j ≡ false
-    zero_bit j = ap (λ (n : ℕ). eqb (n % 2) 1) (zero-div (2 ^ j))
 
 -- one head more
 pub naming_more : (es : List Entry) (text heads : List ℕ) (i : ℕ) (f r : Named) (o : Option ℕ) → i < length heads → NamingOf es text (take i heads) f →
@@ -51,7 +36,3 @@ naming_more es text heads i f r o h n is marks first =
           ∙ sym (first_or_lem (first_where (λ q. is_none (seat_of es (head_number text q))) front) (is_none (seat_of es (head_number text p))) p)
           ∙ sym (first_append (λ q. is_none (seat_of es (head_number text q))) front (p ∷ []));
     })
-
--- all of them
-pub naming_all : (es : List Entry) (text heads : List ℕ) (i : ℕ) (f : Named) → length heads ≤ i → NamingOf es text (take i heads) f → NamingOf es text heads f
-naming_all es text heads i f h n = subst (λ (ps : List ℕ). NamingOf es text ps f) (take_all i heads h) n

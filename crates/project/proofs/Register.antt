@@ -34,7 +34,7 @@ read_again K ws text room u e = go (unit_answer ws text room) refl e
         let room-is = (heading_read ws text room h is).scratch in
         subst (λ (v : StoredUnit). unit_of {K = K} ws v.text 65536 ≡ Ok v) same
         (ap (λ (n : ℕ). as_unit {K = K} text (unit_answer ws text n)) (sym room-is) ∙ ap (as_unit text) is)
-    go (Err x) is f = let z : ◌≡◌ {A = ℕ} 0 1 = cc in absurd (omega arith)
+    go (Err x) is f = cc
 
 -- a call on units that are all read leaves units that are all read
 put_reads : (K : Type 0) (ws : List Word) (s text : List ℕ) (room : ℕ) → AllRead K ws (units s) → AllRead K ws (registered K ws (units s) (Call.put text room))

@@ -74,7 +74,7 @@ found_is s n j l = go (ltb (seat n (stored s)) (length (stored s))) refl
         sym (ne_eqb n (unit_at (units s) j).name
         (λ e. let at = seat_only n j (units s) (once_units s) l (sym e) in
         let low : seat n (stored s) < length (stored s) = omega (arith, same_seat, same_long) in
-        let z : ◌≡◌ {A = ℕ} 0 1 = cc (lt-ltb (seat n (stored s)) (length (stored s)) low, is) in omega arith))
+        cc (lt-ltb (seat n (stored s)) (length (stored s)) low, is)))
 
 -- a head names the unit at a place
 names_there : (s : List ℕ) (o : Option ℕ) (j : ℕ) → j < length (units s) → is_seat (seat_of (stored s) o) j ≡ is_number o (unit_at (units s) j).name

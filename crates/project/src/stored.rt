@@ -105,16 +105,12 @@ impl<'a> Stored<'a> {
         found
     }
 
-    // What the text of a unit names; a text that is no unit names nothing. Linear in the text times what is declared around its
-    // names, with a look into the directory for each head.
-    fn text_named<C: Core>(
-        &self,
-        core: &C,
-        text: &[u8],
-        scratch: &mut [u32; SCRATCH_WORDS],
-    ) -> Naming
-        ensures { NamingOf (stored self.now.store.now) text.now (heads_of C.Core.words text.now) result }
+    // What the text of the unit at a place names; a text that is no unit names nothing. Linear in the text times what is declared
+    // around its names, with a look into the directory for each head.
+    fn named<C: Core>(&self, core: &C, scratch: &mut [u32; SCRATCH_WORDS], i: usize) -> Naming
+        ensures { NamingOf (stored self.now.store.now) (unit_at (units_of self.now.store.now) i).text (heads_of C.Core.words (unit_at (units_of self.now.store.now) i).text) result }
     {
+        let text = self.text(i);
         let heads = unit_heads(core, text, scratch).unwrap_or(&[]);
         self.heads_named(text, heads)
     }
@@ -123,7 +119,7 @@ impl<'a> Stored<'a> {
     fn seen<C: Core>(&self, core: &C, scratch: &mut [u32; SCRATCH_WORDS], i: usize) -> Unit<'a>
         ensures { UnitSeen C.Core.words (units_of self.now.store.now) i result }
     {
-        let found = self.text_named(core, self.text(i), scratch);
+        let found = self.named(core, scratch, i);
         Unit {
             rank: self.entry(i).rank,
             name: self.name(i),
@@ -155,7 +151,7 @@ impl<'a> Stored<'a> {
         match e {
             Unarranged::TooMany => Question::Lengths.into(),
             Unarranged::Missing(i) => {
-                let found = self.text_named(core, self.text(i), scratch);
+                let found = self.named(core, scratch, i);
                 self.about(i, Question::UnitMissing(found.missing.unwrap_or(0)))
             }
             Unarranged::Cycle(i) => self.about(i, Question::Circle),

@@ -1,6 +1,5 @@
 use Rattle.std.proofs.Common.{length, arith}
 use Rattle.std.proofs.lemmas.Grind.{common_steps}
-use Rattle.reader.specs.Answers.{Heading}
 use Rattle.project.proofs.Answered.{put_told}
 use Rattle.project.proofs.Meaning.{put_means}
 use Rattle.project.proofs.Register.{register_law}
@@ -20,8 +19,8 @@ returns-in_err-heading-clause-register g c = register_law g.row.C-Cause.Denot g.
 
 pub returns-in_err-map_err-clause-answer : goal.returns-in_err-map_err-clause-answer
 returns-in_err-map_err-clause-answer g c =
-    let h : Heading = record { name = c.in_ok-heading.heading.name.now; place = c.in_ok-heading.heading.place; rank = c.in_ok-heading.heading.rank } in
-    let t = put_told {K = g.row.C-Cause.Denot} g.C.Core.words c.args.store.now (length c.args.book.now) (length c.args.scratch.now) c.args.text.now h c.put-stored.result c.in_ok-lengths.ensures c.in_ok-heading.ensures.answer c.put-stored.ensures.answer in
+    let t = put_told {K = g.row.C-Cause.Denot} g.C.Core.words c.args.store.now (length c.args.book.now) (length c.args.scratch.now) c.args.text.now c.put-stored.result
+    c.in_ok-lengths.ensures c.in_ok-heading.ensures.answer c.put-stored.ensures.answer in
     grind (arith, common_steps, t)
 
 pub returns-in_err-map_err-clause-law : goal.returns-in_err-map_err-clause-law
@@ -32,8 +31,8 @@ returns-in_err-map_err-clause-register g c = register_law g.row.C-Cause.Denot g.
 
 pub returns-clause-answer : goal.returns-clause-answer
 returns-clause-answer g c =
-    let h : Heading = record { name = c.in_ok-heading.heading.name.now; place = c.in_ok-heading.heading.place; rank = c.in_ok-heading.heading.rank } in
-    let t = put_told {K = g.row.C-Cause.Denot} g.C.Core.words c.args.store.now (length c.args.book.now) (length c.args.scratch.now) c.args.text.now h c.put-stored.result c.in_ok-lengths.ensures c.in_ok-heading.ensures.answer c.put-stored.ensures.answer in
+    let t = put_told {K = g.row.C-Cause.Denot} g.C.Core.words c.args.store.now (length c.args.book.now) (length c.args.scratch.now) c.args.text.now c.put-stored.result
+    c.in_ok-lengths.ensures c.in_ok-heading.ensures.answer c.put-stored.ensures.answer in
     grind (arith, common_steps, t)
 
 pub returns-clause-law : goal.returns-clause-law

@@ -1,6 +1,7 @@
-use Rattle.std.proofs.Common.{length, ap, ◌∙◌}
-use Rattle.project.proofs.Answered.{count_is}
+use Rattle.std.proofs.Common.{arith}
+use Rattle.std.proofs.lemmas.Grind.{common_steps}
+use Rattle.store.proofs.Holding.{length_held}
 use Rattle.project.proofs.state.Open.recount.Goals as goal
 
 pub returns : goal.returns
-returns c = count_is c.len-self.result c.args.store.now (c.len-self.ensures ∙ ap length c.read.ensures.records)
+returns c = grind (arith, common_steps, length_held)

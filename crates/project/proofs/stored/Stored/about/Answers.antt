@@ -1,8 +1,7 @@
-use Rattle.std.proofs.Common.{ℕ, Some, ap, ◌∙◌}
-use Rattle.store.specs.declared.entry.Entry.{Entry}
-use Rattle.project.specs.Faults.{about}
+use Rattle.std.proofs.Common.{arith}
+use Rattle.std.proofs.lemmas.Grind.{common_steps}
 use Rattle.project.proofs.Viewed.{name_is}
 use Rattle.project.proofs.stored.Stored.about.Goals as goal
 
 pub returns : goal.returns
-returns g c = ap (λ (n : ℕ). about (Some n) c.args.question) (ap (λ (e : Entry). e.name) c.entry.ensures ∙ name_is c.args.self.now.store.now c.args.i)
+returns g c = grind (arith, common_steps, name_is)
