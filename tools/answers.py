@@ -22,7 +22,7 @@ ROOT = pathlib.Path(__file__).resolve().parent.parent
 SIGNATURE = re.compile(r"(?:abbrev |unfoldable )?(pub )?(?:abbrev |unfoldable )?(\S+) : ")
 GOAL = re.compile(r"pub \S+ : goal\.")
 IMPORT = re.compile(r"use (\S+?)(?:\.\{(.*)\}| as (\S+))$")
-BREAKS = re.compile(r"[\s(){}\[\];,.`]+")
+BREAKS = re.compile(r"[\s(){};,.`]+")
 
 
 class Answers:
