@@ -82,7 +82,7 @@ def needed(line, words):
     module, names, alias = IMPORT.match(line).groups()
     if alias:
         return line if alias in words else ""
-    kept = [n for n in names.split(", ") if all(part in words for part in n.split("◌") if part)]
+    kept = [n for n in names.split(", ") if all(part in words for part in n.split(" as ")[-1].split("◌") if part)]
     return f"use {module}.{{{', '.join(kept)}}}" if kept else ""
 
 
