@@ -1,5 +1,6 @@
 -- Where numbered signatures meet, the signatures for which they stand match.
 use Rattle.std.proofs.Common.{◌≡◌, ℕ, suc, ◌+◌, ◌<◌, ◌≤◌, Bool, true, false, cond, eqb, ◌⊎◌, Some, Option, sym, refl, ap, ◌∙◌, subst, subst₂, inl, inr, arith}
+use Rattle.std.proofs.lemmas.Bool.{eqb-true}
 use Rattle.types.specs.Types.{Name, ModulePath, at, dot, named, Ty, leaf}
 use Rattle.rules.specs.Signatures.{Sort, a_type, a_value, a_module, Signature, structure, functor, Components, empty, more, Declaration, abstract, defined, value, nested}
 use Rattle.rules.specs.Substitution.{Substitution, under, innermost, out, lift, on_type, on_signature, on_components, on_declaration}
@@ -15,7 +16,6 @@ use Rattle.checker.specs.Meanings.{Meaning, bind, meant}
 use Rattle.checker.specs.Scope.{type_of_part}
 use Rattle.checker.specs.Failing.{Meets, structures_meet, functors_meet, MeetsAll, none_wanted, one_more, MeetsOne, any_type, same_type, same_value, sub_module}
 use Rattle.checker.specs.Standing.{NoPaths, StandsFor, calls, calls_all, calls_one, entered, Like, LikeAll, LikeOne}
-use Rattle.checker.proofs.Same.{eqb_equal}
 use Rattle.checker.proofs.Carrying.{normal_outside, like_along}
 use Rattle.checker.proofs.Looking.{calls_on, LookStands, PartStands, look_part, part_module, TypeStands, part_type, part_value}
 use Rattle.checker.proofs.Entering.{calls_called, called_agree, like_once}
@@ -125,7 +125,7 @@ mutual
   meets_one_apart (any_type {σ = σ} {τ = τ} {n = k} t q) b n p h = go (eqb n k) refl
     where
       go : (c : Bool) → eqb n k ≡ c → cond (eqb n k) (meant σ t) (τ n) ≡ τ n
-      go true e = let z = eqb_equal n k e in absurd (h (omega arith) (omega arith))
+      go true e = let z = eqb-true n k e in absurd (h (omega arith) (omega arith))
       go false e = ap (λ c. cond c (meant σ t) (τ n)) e
   meets_one_apart (same_type t q e) b n p h = refl
   meets_one_apart (same_value e) b n p h = refl

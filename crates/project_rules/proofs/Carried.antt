@@ -14,7 +14,6 @@ use Rattle.order.proofs.Runs.{has_middle, has_front, order_complete, order_acycl
 use Rattle.order.proofs.Existence.{load_order_is}
 use Rattle.order.proofs.Leastness.{load_order_least}
 use Rattle.rules.specs.Signatures.{on_some}
-use Rattle.rules.proofs.Finding.{clash}
 use Rattle.project_rules.proofs.Orders.{name_one_way, smaller_one_way}
 
 -- the units of u stand in v at the places that f tells, and g leads back
@@ -43,13 +42,13 @@ carries_back u v f g c =
 
 -- places in a list that is carried over
 pub has_map : (f : ℕ → ℕ) (l : List ℕ) (i : ℕ) → has l i ≡ true → has (map f l) (f i) ≡ true
-has_map f [] i h = clash (cc)
+has_map f [] i h = cc
 has_map f (j ∷ l) i h =
     ⊎_elim (λ e. or_left (eqb (f j) (f i)) (has (map f l) (f i)) (eq-eqb (f j) (f i) (ap f (eqb-true j i e))))
     (λ m. or_right (eqb (f j) (f i)) (has (map f l) (f i)) (has_map f l i m)) (or_cases (eqb j i) (has l i) h)
 
 pub map_has : (f : ℕ → ℕ) (l : List ℕ) (j : ℕ) → has (map f l) j ≡ true → (i : ℕ) × (has l i ≡ true) × (f i ≡ j)
-map_has f [] j h = clash (cc)
+map_has f [] j h = cc
 map_has f (i ∷ l) j h =
     ⊎_elim (λ e. (i, or_left (eqb i i) (has l i) (eq-eqb i i refl), eqb-true (f i) j e))
     (λ m. let r = map_has f l j m in (r.0, or_right (eqb i r.0) (has l r.0) r.1, r.2)) (or_cases (eqb (f i) j) (has (map f l) j) h)
@@ -64,8 +63,8 @@ pub record MapSplit (f : ℕ → ℕ) (l front : List ℕ) (j : ℕ) (rest : Lis
   pub ends : map f end ≡ rest
 
 pub map_split : (f : ℕ → ℕ) (l front : List ℕ) (j : ℕ) (rest : List ℕ) → map f l ≡ front ++ j ∷ rest → MapSplit f l front j rest
-map_split f [] [] j rest e = clash (cc)
-map_split f [] (x ∷ front) j rest e = clash (cc)
+map_split f [] [] j rest e = cc
+map_split f [] (x ∷ front) j rest e = cc
 map_split f (i ∷ l) [] j rest e = record { start = []; place = i; end = l; whole = refl; starts = refl; placed = cc; ends = cc }
 map_split f (i ∷ l) (x ∷ front) j rest e = go (map_split f l front j rest (cc)) (cc)
   where

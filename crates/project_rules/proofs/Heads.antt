@@ -8,7 +8,6 @@ use Rattle.rules.specs.Signatures.{first_of, on_some}
 use Rattle.rules.specs.Syntax.{TypeText, path_text, label_text0, label_text1, label_text2, SignatureText, sig_text, functor_text, SpecTexts, no_specs, more_specs, SpecText, abstract_spec, defined_spec, value_spec, module_spec, CompilationUnit}
 use Rattle.rules.specs.Naming.{path_names, type_names, signature_names, specs_names, spec_names}
 use Rattle.rules.specs.Projects.{Units, no_units, more_units}
-use Rattle.rules.proofs.Finding.{clash}
 use Rattle.checker.specs.Numbered.{Sig, size_of}
 use Rattle.checker.specs.Scope.{Scope, nothing, with_unit_of}
 use Rattle.checker.specs.Faults.{Answer, ok, fault}
@@ -44,8 +43,8 @@ module _ (Γ : Scope) (known : Name → Bool) (same : (x : Name) → is_there (�
     where
       go : (o : Option Sig) (b : Bool) → is_there o ≡ b → unknown_here place o ≡ on_some spot (cond (not b) (Some (x, place)) None)
       go (Some s) true e = refl
-      go (Some s) false e = clash (cc)
-      go None true e = clash (cc)
+      go (Some s) false e = cc
+      go None true e = cc
       go None false e = refl
 
   both : (l m : List (Name × ℕ)) (a b : Option ℕ) → a ≡ First l → b ≡ First m → first_of a b ≡ First (l ++ m)
@@ -116,11 +115,11 @@ module _ {C : Type 0} (rule : Operation → List Ty → Outcome C) where
       inner : (k₀ : Known) → check_units rule b ≡ accepted k₀ → (a : Answer C Sig) → check_module rule k₀.scope k₀.next u.body ≡ a →
           after_unit u.name k₀ a ≡ accepted k → UnitAccepted b u k
       inner k₀ e (ok g) f h = record { earlier = k₀; own = g; others = e; module_is = f; known = cc }
-      inner k₀ e (fault c) f h = clash (cc)
+      inner k₀ e (fault c) f h = cc
 
       outer : (a : CheckAnswer C) → check_units rule b ≡ a → check_next rule u a ≡ accepted k → UnitAccepted b u k
       outer (accepted k₀) e h = inner k₀ e (check_module rule k₀.scope k₀.next u.body) refl h
-      outer (refused x c) e h = clash (cc)
+      outer (refused x c) e h = cc
 
   -- units in front of accepted ones are accepted, with no more words
   pub front_accepted : (us : List ProjectUnit) (b : Units) (is : List ℕ) (k : Known) → check_units rule (behind us b is) ≡ accepted k →

@@ -15,7 +15,6 @@ use Rattle.rules.specs.Signatures.{on_some}
 use Rattle.rules.specs.Syntax.{SignatureText}
 use Rattle.rules.specs.Naming.{unit_names, signature_names}
 use Rattle.rules.specs.Projects.{Units, no_units, more_units}
-use Rattle.rules.proofs.Finding.{clash}
 use Rattle.checker.specs.Units.{CheckAnswer, accepted, refused, check_units}
 use Rattle.project_rules.specs.Project.{ProjectUnit, some, first_where, nobody, unit_at, name_at, stored, strange, seen, place_of_head, first_lacking, order_of, behind, units_at}
 use Rattle.project_rules.specs.Check.{lacking, circular, unless_told, of_units, lacking_at, circular_at, check_in_turn, check_project}
@@ -129,7 +128,7 @@ up_to_in i [] j h = h
 up_to_in i (k ∷ l) j h = go (eqb k i) h (up_to_in i l j)
   where
     go : (b : Bool) → has (cond b [] (k ∷ up_to i l)) j ≡ true → (has (up_to i l) j ≡ true → has l j ≡ true) → (eqb k j || has l j) ≡ true
-    go true m ih = clash (cc)
+    go true m ih = cc
     go false m ih = over (eqb k j) m
       where
         over : (t : Bool) → (t || has (up_to i l) j) ≡ true → (t || has l j) ≡ true

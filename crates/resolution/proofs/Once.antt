@@ -12,7 +12,7 @@ use Rattle.reader.specs.Notes.{Note, Around, deeper, outermost, plain, notes_sig
 use Rattle.rules.specs.Signatures.{Sort as RuleSort, a_type, a_value, a_module, same_sort as same_rule_sort, sort_of, first_of, find, Declaration}
 use Rattle.rules.specs.Syntax.{SpecTexts, no_specs, more_specs, SpecText, abstract_spec, defined_spec, value_spec, module_spec, components_of, declaration_of, Module, Items, no_items, more_items, Item, type_item, let_item, module_item}
 use Rattle.rules.specs.Rules.{item_sort, Undeclared}
-use Rattle.rules.proofs.Finding.{clash, same_sort_self, same_bytes_self}
+use Rattle.rules.proofs.Finding.{same_sort_self, same_bytes_self}
 use Rattle.checker.specs.Written.{OnceSig, OnceSpecs, OnceModule, OnceItems}
 use Rattle.resolution.specs.Places.{first, behind, beyond}
 use Rattle.resolution.specs.Behind.{past_type, past_term, past_signature, past_module}
@@ -39,7 +39,7 @@ sort_tests Sort.Module Sort.Value = refl
 sort_tests Sort.Module Sort.Module = refl
 
 neither : (a b : Bool) → a || b ≡ false → (a ≡ false) × (b ≡ false)
-neither true b e = let z : ◌≡◌ {A = ℕ} 0 1 = cc in clash z
+neither true b e = cc
 neither false b e = (refl, e)
 
 -- what the scope does not declare in its innermost structure or signature, the specs, or items, before do not declare
@@ -66,8 +66,7 @@ items_cover scope is t y i e h s x f =
       λ g k.
           let a : same_sort s t ≡ true = sort_tests s t ∙ ap (same_rule_sort (rule_sort s)) (sym e ∙ g) ∙ same_sort_self (rule_sort s) in
           let b : bytes_eq x y ≡ true = ap (bytes_eq x) k ∙ same_bytes_self x in
-          let z : ◌≡◌ {A = ℕ} 0 1 = cc (ap₂ (λ (p q : Bool). p && q) a b, n.0) in
-          clash z,
+          cc (ap₂ (λ (p q : Bool). p && q) a b, n.0),
     )
 
 abbrev again : Note → Bool

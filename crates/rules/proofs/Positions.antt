@@ -7,7 +7,7 @@ use Rattle.rules.specs.Lookup.{Env, At, head, inside, Has}
 use Rattle.rules.specs.Checker.{lookup}
 use Rattle.rules.specs.Sizes.{signature_size, components_size, declaration_size, found_or, offset, offset_in, stands_at, Laid}
 use Rattle.rules.proofs.Algebra.{after, find_on, signature_comp, signature_id}
-use Rattle.rules.proofs.Finding.{clash, find_cases, find_off}
+use Rattle.rules.proofs.Finding.{find_cases, find_off}
 use Rattle.rules.proofs.Along.{was_nested}
 use Rattle.rules.proofs.Fresh.{was_structure}
 use Rattle.rules.proofs.Settling.{at_lookup}
@@ -54,7 +54,7 @@ offset_last c y e s x f = ap (λ o. found_or o (offset s x c) (components_size c
 
 -- a component stands within its structure
 found_bound : (c : Components) (s : Sort) (x : Name) (d : Declaration) → find s x c ≡ Some d → offset s x c + suc (declaration_size d) ≤ components_size c
-found_bound empty s x d f = clash (cc)
+found_bound empty s x d f = cc
 found_bound (more c y e) s x d f = go (found_bound c s x d) (find_cases c y e s x d f)
   where
     go :
@@ -70,7 +70,7 @@ Apart c s x d t y e =
     ((s ≡ t) × (x ≡ y)) ⊎ ((offset s x c + suc (declaration_size d) ≤ offset t y c) ⊎ (offset t y c + suc (declaration_size e) ≤ offset s x c))
 
 components_apart : (c : Components) (s : Sort) (x : Name) (d : Declaration) (t : Sort) (y : Name) (e : Declaration) → find s x c ≡ Some d → find t y c ≡ Some e → Apart c s x d t y e
-components_apart empty s x d t y e f g = clash (cc)
+components_apart empty s x d t y e f g = cc
 components_apart (more c z b) s x d t y e f g = go (components_apart c s x d t y e) (find_cases c z b s x d f) (find_cases c z b t y e g)
   where
     go :
@@ -137,7 +137,7 @@ type_or_module :
 type_or_module a x d z m f g r l i = go (components_apart a a_type x d a_module z (nested m) f g)
   where
     go : Apart a a_type x d a_module z (nested m) → ⊥
-    go (inl v) = let u = v.0 in clash (cc)
+    go (inl v) = let u = v.0 in cc
     go (inr (inl o)) = omega arith
     go (inr (inr o)) = omega arith
 
