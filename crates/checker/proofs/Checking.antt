@@ -28,10 +28,10 @@ use Rattle.checker.specs.Texts.{check_type, check_sig}
 use Rattle.checker.specs.Terms.{check_term}
 use Rattle.checker.specs.Modules.{matches, check_path, apply_sig, check_module, check_items, check_item}
 use Rattle.checker.specs.Standing.{entered, Like, LikeAll, ScopeStands, Reached}
-use Rattle.checker.specs.Statements.{NotSize}
+use Rattle.checker.specs.Statements.{NotSize, ModuleLeads}
 use Rattle.checker.specs.Written.{OnceModule, OnceItems, OnceItem}
 use Rattle.checker.proofs.Typing.{TypeRight, type_right, TermRight, term_right}
-use Rattle.checker.proofs.Looking.{LookStands, look}
+use Rattle.checker.proofs.Looking.{look}
 use Rattle.checker.proofs.Entering.{World, later, enter}
 use Rattle.checker.proofs.Signing.{SigRight, sig_right}
 use Rattle.checker.proofs.Copied.{Means, copy_placed, like_copy, like_again}
@@ -53,7 +53,7 @@ path_right C G Γ ρ q place p w = go (module_at G p) (look G Γ ρ w.stands p)
     small n m s e a l true = (s, a, m, e, l)
     small n m s e a l false = λ i. absurd (i refl)
 
-    go : (o : Option Sig) → LookStands o p Γ ρ → PathRight {C = C} (and_then (leads_to place o) (λ s. ask_sig place (strengthened q s))) p q Γ ρ
+    go : (o : Option Sig) → ModuleLeads o p Γ ρ → PathRight {C = C} (and_then (leads_to place o) (λ s. ask_sig place (strengthened q s))) p q Γ ρ
     go None k = λ i. k
     go (Some n) k =
         small (strengthened q n) n k.0 refl k.1

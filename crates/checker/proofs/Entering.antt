@@ -16,7 +16,8 @@ use Rattle.checker.specs.Failing.{Once, OnceAll, OnceIn}
 use Rattle.checker.specs.Standing.{calls, calls_all, calls_one, entered, Like, LikeAll, LikeOne, Called, CalledAll, CalledOne, HeadStands, ScopeStands, Reached}
 use Rattle.checker.proofs.Itself.{found_last, found_before}
 use Rattle.checker.proofs.Carrying.{no_number, normal_outside, normal_weaken, Carry, like_along}
-use Rattle.checker.proofs.Looking.{like_found, like_sort, Both, TypeStands, look_type}
+use Rattle.checker.proofs.Looking.{like_found, like_sort, Both, look_type}
+use Rattle.checker.specs.Statements.{TypeLeads}
 
 -- numbers outside the places of a signature are called as before
 apart_one : (j : ℕ) (t : Ty) (ρ : Meaning) (n : ℕ) → (n ≡ j → ⊥) → (b : Bool) → eqb n j ≡ b → cond (eqb n j) t (ρ n) ≡ ρ n
@@ -272,7 +273,7 @@ enter {G} {Γ} {ρ} {q} w n s l p d =
         go : Reaches (inner G n) (calls innermost n) i → (entered n ρ i ≡ numbered_type i) ⊎ Normal (extend Γ s) (entered n ρ i) (entered n ρ i)
         go (inl v) =
             let e = v.2 (λ j. on_type out (ρ j)) in
-            let t : TypeStands (Some (numbered_type i)) v.0 v.1 (extend Γ s) (entered n ρ) =
-            subst (λ o. TypeStands o v.0 v.1 (extend Γ s) (entered n ρ)) v.3 (look_type (inner G n) (extend Γ s) (entered n ρ) heads v.0 v.1) in
+            let t : TypeLeads (Some (numbered_type i)) v.0 v.1 (extend Γ s) (entered n ρ) =
+            subst (λ o. TypeLeads o v.0 v.1 (extend Γ s) (entered n ρ)) v.3 (look_type (inner G n) (extend Γ s) (entered n ρ) heads v.0 v.1) in
             inr (subst (λ z. Normal (extend Γ s) z (entered n ρ i)) (sym e) t.1)
         go (inr v) = rest (v (λ j. on_type out (ρ j))) (w.settled i)

@@ -26,9 +26,9 @@ use Rattle.checker.specs.Faults.{Answer, ok, fault}
 use Rattle.checker.specs.Modules.{check_module}
 use Rattle.checker.specs.Units.{Known, CheckAnswer, accepted, refused, after_unit, check_next, check_units}
 use Rattle.checker.specs.Standing.{calls, Like, Called, CalledAll, CalledOne, HeadStands, ScopeStands, Reached}
-use Rattle.checker.specs.Statements.{Unnamed, OnceUnits, NotSize, NoSize, Accepts, Decided, CheckDecides, AcceptanceLaw}
+use Rattle.checker.specs.Statements.{Unnamed, OnceUnits, NotSize, NoSize, Accepts, Decided, CheckDecides, AcceptanceLaw, TypeLeads}
 use Rattle.checker.proofs.Carrying.{no_number, Carry, like_along}
-use Rattle.checker.proofs.Looking.{TypeStands, look_type}
+use Rattle.checker.proofs.Looking.{look_type}
 use Rattle.checker.proofs.Entering.{calls_apart, calls_called, like_once, Reaches, calls_reach, Blank, known_below, Settled, World}
 use Rattle.checker.proofs.Checking.{ModuleRight, module_right}
 
@@ -163,8 +163,8 @@ enter_unit {G} {Γ} {ρ} {q} w x e n s l p d =
 
         go : Reaches (with_unit_of x n G) (calls (at (unit x)) n) i → (calls (at (unit x)) n ρ i ≡ numbered_type i) ⊎ Normal (with_unit x s Γ) (calls (at (unit x)) n ρ i) (calls (at (unit x)) n ρ i)
         go (inl v) =
-            let t : TypeStands (Some (numbered_type i)) v.0 v.1 (with_unit x s Γ) (calls (at (unit x)) n ρ) =
-            subst (λ o. TypeStands o v.0 v.1 (with_unit x s Γ) (calls (at (unit x)) n ρ)) v.3
+            let t : TypeLeads (Some (numbered_type i)) v.0 v.1 (with_unit x s Γ) (calls (at (unit x)) n ρ) =
+            subst (λ o. TypeLeads o v.0 v.1 (with_unit x s Γ) (calls (at (unit x)) n ρ)) v.3
             (look_type (with_unit_of x n G) (with_unit x s Γ) (calls (at (unit x)) n ρ) heads v.0 v.1) in
             inr (subst (λ z. Normal (with_unit x s Γ) z (calls (at (unit x)) n ρ i)) (sym (v.2 ρ)) t.1)
         go (inr v) = rest (v ρ) (w.settled i)

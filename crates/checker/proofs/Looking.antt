@@ -1,6 +1,6 @@
 -- Where a path leads in a scope stands for where it leads in the environment.
 use Rattle.std.proofs.Common.{◌≡◌, ℕ, Bool, true, false, cond, ◌&&◌, eqb, ◌⊎◌, Some, None, Option, sym, refl, ap, ◌∙◌, subst, ap₂, subst₂, inl, inr}
-use mathlib.Core.Path.{fun_ext}
+use Rattle.std.proofs.Math.Path.{fun_ext}
 use Rattle.std.specs.Str.{bytes_eq}
 use Rattle.std.proofs.lemmas.Slice.Eq.{bytes_eq-Decides}
 use Rattle.std.proofs.lemmas.Bool.{eqb-true}
@@ -23,6 +23,7 @@ use Rattle.checker.specs.Meanings.{Meaning, numbered_type}
 use Rattle.checker.specs.Scope.{Scope, part_of, module_of, type_of_part, value_of_part, module_at, type_at, value_at}
 use Rattle.checker.specs.Standing.{StandsFor, calls, calls_all, calls_one, entered, Like, LikeAll, LikeOne, Called, CalledAll, CalledOne, HeadStands, ScopeStands}
 use Rattle.checker.proofs.Carrying.{Carry, like_one_along}
+use Rattle.checker.specs.Statements.{ModuleLeads, TypeLeads, ValueLeads}
 
 -- components that others begin with
 pub data Starts (c : Parts) : Parts → Type 0 where
@@ -176,16 +177,12 @@ like_one_at Γ p g c ρ w k b a i j e d l =
     (reading_along Γ p (structure a) (knows_exact x))
     (carry_reading (sig b) (structure a) Γ p ρ x (called_starts i p ρ k)) l
 
--- a module that a path leads to, and a component there
-abbrev pub LookStands : Option Sig → ModulePath → Env → Meaning → Type 0
-LookStands None p Γ ρ = (s : Signature) → At Γ p s → ⊥
-LookStands (Some n) p Γ ρ = (s : Signature) × At Γ p s × Like n s Γ ρ × Called p n ρ
-
+-- a component there
 abbrev pub PartStands : Option Part → Sort → ModulePath → Name → Env → Meaning → Type 0
 PartStands None s p x Γ ρ = (d : Declaration) → Has Γ p s x d → ⊥
 PartStands (Some e) s p x Γ ρ = (d : Declaration) × Has Γ p s x d × LikeOne e d Γ ρ × CalledOne p x e ρ
 
-pub look_part : (o : Option Sig) (p : ModulePath) (Γ : Env) (ρ : Meaning) → LookStands o p Γ ρ → (s : Sort) (x : Name) → PartStands (part_of s x o) s p x Γ ρ
+pub look_part : (o : Option Sig) (p : ModulePath) (Γ : Env) (ρ : Meaning) → ModuleLeads o p Γ ρ → (s : Sort) (x : Name) → PartStands (part_of s x o) s p x Γ ρ
 look_part None p Γ ρ k s x = λ d h. k (structure h.components) h.leads
 look_part (Some (functor_sig n m)) p Γ ρ k s x = λ d h. go k.0 k.1 k.2 d h
   where
@@ -219,7 +216,7 @@ look_part (Some (sig c)) p Γ ρ k s x = go k.0 k.1 k.2 k.3
     go (functor t r) a l q = absurd l
 
 -- a module component's signature
-pub part_module : (o : Option Part) (p : ModulePath) (x : Name) (Γ : Env) (ρ : Meaning) → PartStands o a_module p x Γ ρ → LookStands (module_of o) (dot p x) Γ ρ
+pub part_module : (o : Option Part) (p : ModulePath) (x : Name) (Γ : Env) (ρ : Meaning) → PartStands o a_module p x Γ ρ → ModuleLeads (module_of o) (dot p x) Γ ρ
 part_module None p x Γ ρ k = λ s a. k (nested s) (at_has a)
 part_module (Some (abstract_part n)) p x Γ ρ k =
     let i = like_sort (abstract_part n) k.0 Γ ρ k.2 in let j = has_sort k.1 in cc
@@ -229,13 +226,13 @@ part_module (Some (value_part t)) p x Γ ρ k =
     let i = like_sort (value_part t) k.0 Γ ρ k.2 in let j = has_sort k.1 in cc
 part_module (Some (module_part n)) p x Γ ρ k = go k.0 k.1 k.2
   where
-    go : (d : Declaration) → Has Γ p a_module x d → LikeOne (module_part n) d Γ ρ → LookStands (Some n) (dot p x) Γ ρ
+    go : (d : Declaration) → Has Γ p a_module x d → LikeOne (module_part n) d Γ ρ → ModuleLeads (Some n) (dot p x) Γ ρ
     go abstract h l = absurd l
     go (defined u) h l = absurd l
     go (value u) h l = absurd l
     go (nested s) h l = (s, has_at h, l, k.3)
 
-head_look : (o : Option Sig) (o' : Option Signature) (h : Head) (Γ : Env) (ρ : Meaning) → Γ h ≡ o' → HeadStands o o' h Γ ρ → LookStands o (at h) Γ ρ
+head_look : (o : Option Sig) (o' : Option Signature) (h : Head) (Γ : Env) (ρ : Meaning) → Γ h ≡ o' → HeadStands o o' h Γ ρ → ModuleLeads o (at h) Γ ρ
 head_look None None h Γ ρ e k = λ s a. none_at s a
   where
     none_at : (s : Signature) → At Γ (at h) s → ⊥
@@ -245,17 +242,12 @@ head_look (Some n) None h Γ ρ e k = absurd k
 head_look (Some n) (Some s) h Γ ρ e k = (s, head e, k.0, k.1)
 
 -- a path leads to a module in the scope exactly when it does in the environment, and what is found stands for it
-pub look : (G : Scope) (Γ : Env) (ρ : Meaning) → ScopeStands G Γ ρ → (p : ModulePath) → LookStands (module_at G p) p Γ ρ
+pub look : (G : Scope) (Γ : Env) (ρ : Meaning) → ScopeStands G Γ ρ → (p : ModulePath) → ModuleLeads (module_at G p) p Γ ρ
 look G Γ ρ k (at h) = head_look (G h) (Γ h) h Γ ρ refl (k h)
 look G Γ ρ k (dot p x) =
     part_module (part_of a_module x (module_at G p)) p x Γ ρ (look_part (module_at G p) p Γ ρ (look G Γ ρ k p) a_module x)
 
--- a type path
-abbrev pub TypeStands : Option Ty → ModulePath → Name → Env → Meaning → Type 0
-TypeStands None p x Γ ρ = (d : Declaration) → Has Γ p a_type x d → ⊥
-TypeStands (Some t) p x Γ ρ = StandsFor t (leaf (named p x)) Γ ρ
-
-pub part_type : (o : Option Part) (p : ModulePath) (x : Name) (Γ : Env) (ρ : Meaning) → PartStands o a_type p x Γ ρ → TypeStands (type_of_part o) p x Γ ρ
+pub part_type : (o : Option Part) (p : ModulePath) (x : Name) (Γ : Env) (ρ : Meaning) → PartStands o a_type p x Γ ρ → TypeLeads (type_of_part o) p x Γ ρ
 part_type None p x Γ ρ k = k
 part_type (Some (abstract_part n)) p x Γ ρ k = go k.0 k.1 k.2
   where
@@ -276,16 +268,11 @@ part_type (Some (value_part t)) p x Γ ρ k =
 part_type (Some (module_part t)) p x Γ ρ k =
     let i = like_sort (module_part t) k.0 Γ ρ k.2 in let j = has_sort k.1 in cc
 
-pub look_type : (G : Scope) (Γ : Env) (ρ : Meaning) → ScopeStands G Γ ρ → (p : ModulePath) (x : Name) → TypeStands (type_at G p x) p x Γ ρ
+pub look_type : (G : Scope) (Γ : Env) (ρ : Meaning) → ScopeStands G Γ ρ → (p : ModulePath) (x : Name) → TypeLeads (type_at G p x) p x Γ ρ
 look_type G Γ ρ k p x =
     part_type (part_of a_type x (module_at G p)) p x Γ ρ (look_part (module_at G p) p Γ ρ (look G Γ ρ k p) a_type x)
 
--- a value path
-abbrev pub ValueStands : Option Ty → ModulePath → Name → Env → Meaning → Type 0
-ValueStands None p x Γ ρ = (t : Ty) → Has Γ p a_value x (value t) → ⊥
-ValueStands (Some t) p x Γ ρ = (u : Ty) × Has Γ p a_value x (value u) × StandsFor t u Γ ρ
-
-pub part_value : (o : Option Part) (p : ModulePath) (x : Name) (Γ : Env) (ρ : Meaning) → PartStands o a_value p x Γ ρ → ValueStands (value_of_part o) p x Γ ρ
+pub part_value : (o : Option Part) (p : ModulePath) (x : Name) (Γ : Env) (ρ : Meaning) → PartStands o a_value p x Γ ρ → ValueLeads (value_of_part o) p x Γ ρ
 part_value None p x Γ ρ k = λ t h. k (value t) h
 part_value (Some (abstract_part n)) p x Γ ρ k =
     let i = like_sort (abstract_part n) k.0 Γ ρ k.2 in let j = has_sort k.1 in cc
@@ -293,7 +280,7 @@ part_value (Some (defined_part u)) p x Γ ρ k =
     let i = like_sort (defined_part u) k.0 Γ ρ k.2 in let j = has_sort k.1 in cc
 part_value (Some (value_part t)) p x Γ ρ k = go k.0 k.1 k.2
   where
-    go : (d : Declaration) → Has Γ p a_value x d → LikeOne (value_part t) d Γ ρ → ValueStands (Some t) p x Γ ρ
+    go : (d : Declaration) → Has Γ p a_value x d → LikeOne (value_part t) d Γ ρ → ValueLeads (Some t) p x Γ ρ
     go abstract h l = absurd l
     go (defined u) h l = absurd l
     go (value u) h l = (u, h, l)
@@ -301,6 +288,6 @@ part_value (Some (value_part t)) p x Γ ρ k = go k.0 k.1 k.2
 part_value (Some (module_part n)) p x Γ ρ k =
     let i = like_sort (module_part n) k.0 Γ ρ k.2 in let j = has_sort k.1 in cc
 
-pub look_value : (G : Scope) (Γ : Env) (ρ : Meaning) → ScopeStands G Γ ρ → (p : ModulePath) (x : Name) → ValueStands (value_at G p x) p x Γ ρ
+pub look_value : (G : Scope) (Γ : Env) (ρ : Meaning) → ScopeStands G Γ ρ → (p : ModulePath) (x : Name) → ValueLeads (value_at G p x) p x Γ ρ
 look_value G Γ ρ k p x =
     part_value (part_of a_value x (module_at G p)) p x Γ ρ (look_part (module_at G p) p Γ ρ (look G Γ ρ k p) a_value x)

@@ -17,10 +17,11 @@ use Rattle.checker.specs.Scope.{type_of_part}
 use Rattle.checker.specs.Failing.{Meets, structures_meet, functors_meet, MeetsAll, none_wanted, one_more, MeetsOne, any_type, same_type, same_value, sub_module}
 use Rattle.checker.specs.Standing.{NoPaths, StandsFor, calls, calls_all, calls_one, entered, Like, LikeAll, LikeOne}
 use Rattle.checker.proofs.Carrying.{normal_outside, like_along}
-use Rattle.checker.proofs.Looking.{calls_on, LookStands, PartStands, look_part, part_module, TypeStands, part_type, part_value}
+use Rattle.checker.proofs.Looking.{calls_on, PartStands, look_part, part_module, part_type, part_value}
 use Rattle.checker.proofs.Entering.{calls_called, called_agree, like_once}
 use Rattle.checker.proofs.Copied.{Means, stands_means}
 use Rattle.checker.proofs.Ground.{Plain, PlainIn, PlainInAll, PlainInOne, plain_in, plain_one_agree, plain_calls, Apart, Inside, inside_found, Tidy, meant_tidy, after_meaning, meant_comp, Recovers, recovers_enter, entered_plain, means_weaken, means_lift, means_out}
+use Rattle.checker.specs.Statements.{ModuleLeads, TypeLeads}
 
 -- an environment and its naming
 pub record Ground (Γ : Env) (ρ : Meaning) : Type 0 where
@@ -38,7 +39,7 @@ pub record Reading (Γ : Env) (ρ : Meaning) (τ : Meaning) : Type 0 where
 
 -- a signature that stands at a path
 pub record There (Γ : Env) (ρ : Meaning) (g : Sig) (σ : Meaning) (a : ℕ) (p : ModulePath) : Type 0 where
-  pub stands : LookStands (Some g) p Γ (after_meaning ρ σ)
+  pub stands : ModuleLeads (Some g) p Γ (after_meaning ρ σ)
   pub placed : Placed a g
   pub plain_names : PlainIn a g ρ
   pub plain_means : PlainIn a g σ
@@ -226,7 +227,7 @@ pub partner_type :
     NoPaths (meant σ t) × Normal Γ (leaf (named p x)) (meant ρ (meant σ t))
 partner_type Γ ρ σ p x d t k h q =
     let s : StandsFor t (leaf (named p x)) Γ (after_meaning ρ σ) =
-    subst (λ o. TypeStands o p x Γ (after_meaning ρ σ)) q (part_type (Some d) p x Γ (after_meaning ρ σ) k) in
+    subst (λ o. TypeLeads o p x Γ (after_meaning ρ σ)) q (part_type (Some d) p x Γ (after_meaning ρ σ) k) in
     (meant_tidy t s.0 σ h, subst (Normal Γ (leaf (named p x))) (meant_comp ρ σ t) s.1)
 
 -- two functors, where their parameters meet the other way round and then their results

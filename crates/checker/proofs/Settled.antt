@@ -1,6 +1,6 @@
 -- A verdict of matching says what it should, and the sizes are bound enough.
 use Rattle.std.proofs.Common.{◌≡◌, ℕ, zero, suc, ◌+◌, ◌<◌, ◌≤◌, Bool, true, false, cond, ◌&&◌, Some, None, Option, sym, refl, ap, ◌∙◌, arith}
-use mathlib.Core.Bool.{false≢true}
+use Rattle.std.proofs.lemmas.Bool.{false≢true}
 use Rattle.std.specs.Str.{bytes_eq}
 use Rattle.types.specs.Types.{Name, Ty, same}
 use Rattle.types.proofs.Same.{same_equal, same_self}
@@ -121,7 +121,7 @@ with_settled n m r σ (functor_sig s b) τ (functor_sig s' b') x h = go (m τ s'
     go (differs y c) a = in_parameters a
 
 pub settled : (n : ℕ) → Right n (match_to n)
-settled zero σ g τ w x h = absurd (let z : ⊥ = omega arith in z)
+settled zero σ g τ w x h = absurd (omega arith)
 settled (suc n) σ g τ w x h = with_settled n (match_to n) (settled n) σ g τ w x h
 
 pub first_failure : FirstFailure

@@ -1,6 +1,6 @@
 -- The strengthened signature of a path stands for what the rules say of the path.
 use Rattle.std.proofs.Common.{◌≡◌, ℕ, suc, ◌+◌, ◌⊎◌, Some, sym, refl, ap, ◌∙◌, subst, ap₂, subst₂, inl, inr, arith}
-use mathlib.Core.Path.{fun_ext}
+use Rattle.std.proofs.Math.Path.{fun_ext}
 use Rattle.types.specs.Types.{Name, ModulePath, at, dot, named, leaf}
 use Rattle.rules.specs.Signatures.{a_type, a_module, Signature, structure, functor, Components, empty, more, Declaration, abstract, defined, value, nested, on_some}
 use Rattle.rules.specs.Substitution.{Substitution, innermost, on_path, out, lift, reading, on_type, on_signature, on_components, on_declaration}

@@ -20,9 +20,9 @@ use Rattle.checker.specs.Faults.{Fault, too_large, Answer, ok, fault, and_then, 
 use Rattle.checker.specs.Texts.{check_type}
 use Rattle.checker.specs.Terms.{judged, check_term, check_terms}
 use Rattle.checker.specs.Standing.{NoPaths, StandsFor, ScopeStands, Reached}
-use Rattle.checker.specs.Statements.{NotSize, Good}
+use Rattle.checker.specs.Statements.{NotSize, Good, TypeLeads, ValueLeads}
 use Rattle.checker.proofs.Carrying.{part_of_lem, parts_of}
-use Rattle.checker.proofs.Looking.{TypeStands, look_type, ValueStands, look_value}
+use Rattle.checker.proofs.Looking.{look_type, look_value}
 
 -- a written type is answered rightly
 abbrev pub TypeRight : {C : Type 0} → Answer C Ty → Ty → Env → Meaning → Type 0
@@ -36,7 +36,7 @@ ask_type_right C place n t Γ ρ s = go (small_type n)
     go true = s
     go false = λ q l. q refl
 
-path_right : (C : Type 0) (place : ℕ) (o : Option Ty) (p : ModulePath) (x : Name) (Γ : Env) (ρ : Meaning) → TypeStands o p x Γ ρ → TypeRight {C = C} (leads_to place o) (leaf (named p x)) Γ ρ
+path_right : (C : Type 0) (place : ℕ) (o : Option Ty) (p : ModulePath) (x : Name) (Γ : Env) (ρ : Meaning) → TypeLeads o p x Γ ρ → TypeRight {C = C} (leads_to place o) (leaf (named p x)) Γ ρ
 path_right C place None p x Γ ρ k = λ q l. k l.0 l.1
 path_right C place (Some t) p x Γ ρ k = k
 
@@ -206,7 +206,7 @@ module _ {C : Type 0} (w : ℕ) (rule : Operation → List Ty → Outcome C) (la
   variable_right place j (Some t) None Δ e p = absurd p
   variable_right place j (Some t) (Some u) Δ e p = (of_variable u e p.1, (p.0, normal_normal p.1, tt))
 
-  component_right : (place : ℕ) (o : Option Ty) (p : ModulePath) (x : Name) (Δ : List Ty) → ValueStands o p x Γ ρ → TermRight (leads_to place o) Δ (component place p x)
+  component_right : (place : ℕ) (o : Option Ty) (p : ModulePath) (x : Name) (Δ : List Ty) → ValueLeads o p x Γ ρ → TermRight (leads_to place o) Δ (component place p x)
   component_right place None p x Δ v = λ q u a. nothing u a
     where
       nothing : (u : Ty) → TermHas rule Γ Δ (component place p x) u → ⊥

@@ -1,6 +1,7 @@
 -- The same units at other places: what is told of them, and their load order, are the same.
 use Rattle.std.proofs.Common.{◌≡◌, ℕ, ◌<◌, Bool, true, false, eqb, List, [], ◌∷◌, ◌++◌, map, Some, None, Option, sym, refl, ap, ◌∙◌, subst, ap₂, subst₂, inl, inr, ⊎_elim, arith}
 use Rattle.std.proofs.lemmas.Bool.{cases_Bool, both_ways, or_cases, or_left, or_right, eq-eqb, eqb-true}
+use Rattle.std.proofs.lemmas.List.{map-append}
 use Rattle.order.specs.Units.{Units, names}
 use Rattle.order.specs.Compare.{NameLess, NameFirst, UnitLess, Distinct, by_name}
 use Rattle.order.specs.Least.{best}
@@ -80,10 +81,6 @@ map_split f (i ∷ l) (x ∷ front) j rest e = go (map_split f l front j rest (c
           ends = r.ends;
         }
 
-pub map_append : (f : ℕ → ℕ) (l m : List ℕ) → map f (l ++ m) ≡ map f l ++ map f m
-map_append f [] m = refl
-map_append f (i ∷ l) m = ap (λ z. f i ∷ z) (map_append f l m)
-
 pub map_back : (f g : ℕ → ℕ) (l : List ℕ) → ((i : ℕ) → has l i ≡ true → f (g i) ≡ i) → map f (map g l) ≡ l
 map_back f g [] h = refl
 map_back f g (i ∷ l) h =
@@ -146,8 +143,8 @@ module _ (u v : Units) (f g : ℕ → ℕ) (c : Carries u v f g) where
         ps_rest = map f s.ps_rest;
         q = f s.q;
         qs_rest = map f s.qs_rest;
-        ps_is = ap (map f) s.ps_is ∙ map_append f s.front (s.p ∷ s.ps_rest);
-        qs_is = ap (map f) s.qs_is ∙ map_append f s.front (s.q ∷ s.qs_rest);
+        ps_is = ap (map f) s.ps_is ∙ map-append f s.front (s.p ∷ s.ps_rest);
+        qs_is = ap (map f) s.qs_is ∙ map-append f s.front (s.q ∷ s.qs_rest);
         less =
             less_carried s.p s.q
             (o.units s.p (subst (λ z. has z s.p ≡ true) (sym s.ps_is) (has_middle s.front s.p s.ps_rest)))
@@ -186,7 +183,7 @@ best_carried u v f g c d d' m n same =
 
     name_less : (w : Units) → Distinct w → (i j : ℕ) → i < w.count → j < w.count → NameFirst w i j → NameLess (w.name i) (w.name j)
     name_less w dw i j l k h =
-        ⊎_elim (λ r. r) (λ r. let e : i ≡ j = dw i j l k r.0 in let x : i < j = r.1 in let z : ⊥ = omega arith in absurd z) h
+        ⊎_elim (λ r. r) (λ r. let e : i ≡ j = dw i j l k r.0 in let x : i < j = r.1 in absurd (omega arith)) h
 
     go : (o : Option ℕ) → IsBest m (by_name u) u.count o → (p : Option ℕ) → IsBest n (by_name v) v.count p → p ≡ on_some f o
     go None a None b = refl

@@ -1,10 +1,5 @@
 -- What the proofs share: the tokens of a stream one by one, and the surroundings that the notes pass on.
-use mathlib.Core.Path.{◌≡◌, refl}
-use mathlib.Core.List.{List, ◌∷◌}
-use Prim.Native.Nat.{ℕ}
-use Rattle.std.specs.declared.option.Option.{Option}
-use Rattle.std.specs.declared.option.Option.TheVariants.{Some, None}
-use Rattle.std.proofs.Common.{[]}
+use Rattle.std.proofs.Common.{[], ◌≡◌, ℕ, List, ◌∷◌, Some, None, Option, refl}
 use Rattle.types.specs.Types.{Name}
 use Rattle.reader.specs.declared.scope.Sort.{Sort}
 use Rattle.reader.specs.declared.scope.Binder.{Binder}

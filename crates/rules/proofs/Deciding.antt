@@ -181,8 +181,8 @@ matches_tells (suc n) Γ (functor s r) (functor s' r') e w v q =
 
 pub matches_found :
     (n : ℕ) (Γ : Env) (a b : Signature) → SettledEnv Γ → Settled Γ a → Proper Γ b → extent a + extent b ≤ n → Fits Γ a b → matches_to n Γ a b ≡ true
-matches_found zero Γ (structure g) b e w v l m = let z : ⊥ = omega arith in absurd z
-matches_found zero Γ (functor s r) b e w v l m = let z : ⊥ = omega arith in absurd z
+matches_found zero Γ (structure g) b e w v l m = absurd (omega arith)
+matches_found zero Γ (functor s r) b e w v l m = absurd (omega arith)
 matches_found (suc n) Γ (structure g) (structure c) e w v l (f_structure m) =
     let Γ+ = extend Γ (structure g) in
     let i = extent_on out (structure g) in

@@ -163,8 +163,8 @@ tells_to n Γ g s r = matches_tells n Γ g (functor s r)
 pub failure_first :
     (n : ℕ) (Γ : Env) (w : Option Name) (a b : Signature) (m : Mismatch) → SettledEnv Γ → Settled Γ a → Proper Γ b → extent a + extent b ≤ n →
     mismatch_to n Γ w a b ≡ Some m → FirstFailure Γ w a b m
-failure_first zero Γ w (structure g) b m e u v l q = let z : ⊥ = omega arith in absurd z
-failure_first zero Γ w (functor s r) b m e u v l q = let z : ⊥ = omega arith in absurd z
+failure_first zero Γ w (structure g) b m e u v l q = absurd (omega arith)
+failure_first zero Γ w (functor s r) b m e u v l q = absurd (omega arith)
 failure_first (suc n) Γ w (structure g) (structure c) m e u v l q =
     let Γ+ = extend Γ (structure g) in
     let i = extent_on out (structure g) in

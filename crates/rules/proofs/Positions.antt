@@ -148,16 +148,16 @@ one_module a x d y e f g r q l k i = go (components_apart a a_module x (nested d
   where
     go : Apart a a_module x (nested d) a_module y (nested e) → x ≡ y
     go (inl v) = v.1
-    go (inr (inl o)) = let z : ⊥ = omega arith in absurd z
-    go (inr (inr o)) = let z : ⊥ = omega arith in absurd z
+    go (inr (inl o)) = absurd (omega arith)
+    go (inr (inr o)) = absurd (omega arith)
 
 one_type : (a : Components) (x : Name) (d : Declaration) (y : Name) (e : Declaration) → find a_type x a ≡ Some d → find a_type y a ≡ Some e → offset a_type x a ≡ offset a_type y a → x ≡ y
 one_type a x d y e f g i = go (components_apart a a_type x d a_type y e f g)
   where
     go : Apart a a_type x d a_type y e → x ≡ y
     go (inl v) = v.1
-    go (inr (inl o)) = let z : ⊥ = omega arith in absurd z
-    go (inr (inr o)) = let z : ⊥ = omega arith in absurd z
+    go (inr (inl o)) = absurd (omega arith)
+    go (inr (inr o)) = absurd (omega arith)
 
 -- where a type stands by a walk tells the walk and the name
 walk_apart :
@@ -322,5 +322,5 @@ position_one from Γ k laid p x d q y e h g i =
             let r : a.way.behind + offset a_type x a.inner ≡ b.way.behind + offset a_type y b.inner = omega arith in
             let w = walk_apart a.way.walk b.way.walk roots a.inner b.inner a.shape b.shape x y a.declaration b.declaration a.found b.found r in
             (sym a.way.spelled ∙ (ap₂ (λ h l. path_from (at h) l) o w.0 ∙ b.way.spelled), w.1)
-        decide (inr (inl l)) = let la' = la in let pa' = pa in let pb' = pb in let z : ⊥ = omega arith in absurd z
-        decide (inr (inr l)) = let lb' = lb in let pa' = pa in let pb' = pb in let z : ⊥ = omega arith in absurd z
+        decide (inr (inl l)) = let la' = la in let pa' = pa in let pb' = pb in absurd (omega arith)
+        decide (inr (inr l)) = let lb' = lb in let pa' = pa in let pb' = pb in absurd (omega arith)

@@ -154,7 +154,7 @@ module _ (n : ℕ) (tf : ThroughFunctors n) where
       q')
 
 through_functors : (n : ℕ) → ThroughFunctors n
-through_functors zero = λ Γ f s r s' r' l m m'. let z : ⊥ = omega arith in absurd z
+through_functors zero = λ Γ f s r s' r' l m m'. absurd (omega arith)
 through_functors (suc n) = through_more n (through_functors n)
 
 -- matching is transitive
