@@ -7,7 +7,7 @@ python3 tools/answers.py NAME words/front ..   the same for the answers below pr
 python3 tools/answers.py NAME --time      also tells how long a whole check takes before and after
 python3 tools/answers.py NAME --unused    lists only the lemmas of proofs/ that nothing cites
 
-It works on a copy of the crate and those below it, in target/answers/NAME: it removes all the answers, checks, puts back
+It works on a copy of the crate and those below it, outside the repository: it removes all the answers, checks, puts back
 those of the goals that are open, and repeats until the check passes; then the same with --margin.
 """
 import pathlib
@@ -16,13 +16,14 @@ import resource
 import shutil
 import subprocess
 import sys
+import tempfile
 import time
 
 ROOT = pathlib.Path(__file__).resolve().parent.parent
 SIGNATURE = re.compile(r"(?:abbrev |unfoldable )?(pub )?(?:abbrev |unfoldable )?(\S+) : ")
 GOAL = re.compile(r"pub \S+ : goal\.")
 IMPORT = re.compile(r"use (\S+?)(?:\.\{(.*)\}| as (\S+))$")
-BREAKS = re.compile(r"[\s(){}\[\];,.`]+")
+BREAKS = re.compile(r"[\s(){};,.`]+")
 
 
 class Answers:
@@ -82,7 +83,7 @@ def needed(line, words):
     module, names, alias = IMPORT.match(line).groups()
     if alias:
         return line if alias in words else ""
-    kept = [n for n in names.split(", ") if all(part in words for part in n.split("◌") if part)]
+    kept = [n for n in names.split(", ") if all(part in words for part in n.split(" as ")[-1].split("◌") if part)]
     return f"use {module}.{{{', '.join(kept)}}}" if kept else ""
 
 
@@ -96,11 +97,8 @@ def below(name):
     return {n: lines[n] for n in names}
 
 
-def copied(name):
+def copied(name, top):
     """A copy of the crate and those below it, with the work that their checks kept."""
-    top = ROOT / "target" / "answers" / name
-    shutil.rmtree(top, ignore_errors=True)
-    top.mkdir(parents=True)
     (top / "crates.txt").write_text("\n".join(below(name).values()) + "\n")
     for crate in below(name):
         shutil.copytree(ROOT / "crates" / crate, top / "crates" / crate)
@@ -200,7 +198,12 @@ def main(args):
     name, only = names[0], names[1:]
     if "--unused" in options:
         return unused(name)
-    folder = copied(name)
+    with tempfile.TemporaryDirectory(prefix="answers-") as room:
+        tried(name, only, options, copied(name, pathlib.Path(room)))
+
+
+def tried(name, only, options, folder):
+    """Finds the answers that may go in the copy of the crate, and removes them here if that is asked for."""
     proofs = folder / "proofs"
     files = {str(p.parent.relative_to(proofs)): Answers(p) for p in sorted(proofs.rglob("Answers.antt"))}
     if only:

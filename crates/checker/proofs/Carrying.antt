@@ -5,13 +5,14 @@ use Rattle.rules.specs.Signatures.{a_type, a_module, Signature, structure, funct
 use Rattle.rules.specs.Substitution.{Substitution, innermost, on_path, out, lift, reading, on_type, on_signature, on_components, on_declaration}
 use Rattle.rules.specs.Lookup.{Env, extend, At, head, inside, Has, Normal, opaque, unfolds, bare, part, parts}
 use Rattle.rules.proofs.Algebra.{type_lift_out, signature_lift_out, signature_reading_on}
-use Rattle.rules.proofs.Finding.{clash, find_on_some, normal_unique, normal_normal}
-use Rattle.rules.proofs.Along.{From, normal_along}
-use Rattle.rules.proofs.Exact.{Exact, exact_laws, exact_has, out_from}
-use Rattle.rules.proofs.Along.{at_along, was_abstract, defined_along}
+use Rattle.rules.proofs.Finding.{find_on_some, normal_unique, normal_normal}
+use Rattle.rules.proofs.Along.{normal_along}
+use Rattle.rules.proofs.Exact.{Exact, exact_laws, out_from}
+use Rattle.rules.proofs.Along.{was_abstract}
 use Rattle.rules.proofs.Transitive.{Knows, knows_laws}
 use Rattle.rules.proofs.Knowing.{Along, lift_along}
 use Rattle.rules.proofs.Fresh.{Fresh, fresh_head, fresh_dot, abstract_outside}
+use Rattle.rules.proofs.Settling.{normal_exactly}
 use Rattle.checker.specs.Numbered.{Sig, sig, functor_sig, Parts, no_parts, more_parts, Part, abstract_part, defined_part, value_part, module_part}
 use Rattle.checker.specs.Meanings.{Meaning, meant}
 use Rattle.checker.specs.Standing.{NoPaths, StandsFor, calls, calls_all, calls_one, entered, Like, LikeAll, LikeOne}
@@ -23,41 +24,29 @@ normal_abstract {Γ} (opaque {p = q} {x = y} h) p x e =
     let ex : y ≡ x = cc in
     subst₂ (λ a b. Has Γ a a_type b abstract) ep ex h
 normal_abstract (unfolds t h m) p x e = normal_abstract m p x e
-normal_abstract bare p x e = clash (cc)
-normal_abstract (part m) p x e = clash (cc)
-normal_abstract (parts m k) p x e = clash (cc)
-
--- normal forms where each head leads to exactly the same
-pub normal_exactly : {Γ' : Env} {t n : Ty} → Normal Γ' t n → (θ : Substitution) (Γ : Env) → From Exact θ Γ' Γ → Normal Γ (on_type θ t) (on_type θ n)
-normal_exactly (opaque {p = p} {x = x} h) θ Γ k =
-    let c = h.components in
-    opaque (exact_has Γ (on_path θ p) (on_components (lift θ) c) a_type x abstract
-    (at_along Exact exact_laws h.leads θ Γ k)
-    (find_on_some (lift θ) a_type x c abstract (h.found ∙ ap Some (was_abstract (reading p) h.declared h.reads))))
-normal_exactly (unfolds {n = n} t h m) θ Γ k = defined_along Exact exact_laws h θ Γ k (on_type θ n) (normal_exactly m θ Γ k)
-normal_exactly bare θ Γ k = bare
-normal_exactly (part m) θ Γ k = part (normal_exactly m θ Γ k)
-normal_exactly (parts m l) θ Γ k = parts (normal_exactly m θ Γ k) (normal_exactly l θ Γ k)
+normal_abstract bare p x e = cc
+normal_abstract (part m) p x e = cc
+normal_abstract (parts m k) p x e = cc
 
 pub normal_weaken : {Γ : Env} (g : Signature) {t n : Ty} → Normal Γ t n → Normal (extend Γ g) (on_type out t) (on_type out n)
 normal_weaken {Γ} g m = normal_exactly m out (extend Γ g) (out_from Exact exact_laws Γ g)
 
 -- a normal form from outside is one outside
 pub part_of_lem : {Γ : Env} {t n : Ty} → Normal Γ t n → (l : ℕ) (u : Ty) → t ≡ label1 l u → n ≡ label1 l u → Normal Γ u u
-part_of_lem (opaque h) l u e f = clash (cc)
-part_of_lem (unfolds t h m) l u e f = clash (cc)
-part_of_lem bare l u e f = clash (cc)
+part_of_lem (opaque h) l u e f = cc
+part_of_lem (unfolds t h m) l u e f = cc
+part_of_lem bare l u e f = cc
 part_of_lem {Γ} (part {t = t} {n = n} m) l u e f =
     let et : t ≡ u = cc in
     let en : n ≡ u = cc in
     subst₂ (Normal Γ) et en m
-part_of_lem (parts m k) l u e f = clash (cc)
+part_of_lem (parts m k) l u e f = cc
 
 pub parts_of : {Γ : Env} {t n : Ty} → Normal Γ t n → (l : ℕ) (u v : Ty) → t ≡ label2 l u v → n ≡ label2 l u v → Normal Γ u u × Normal Γ v v
-parts_of (opaque h) l u v e f = clash (cc)
-parts_of (unfolds t h m) l u v e f = clash (cc)
-parts_of bare l u v e f = clash (cc)
-parts_of (part m) l u v e f = clash (cc)
+parts_of (opaque h) l u v e f = cc
+parts_of (unfolds t h m) l u v e f = cc
+parts_of bare l u v e f = cc
+parts_of (part m) l u v e f = cc
 parts_of {Γ} (parts {t = t} {u = s} {n = n} {m = k} a b) l u v e f =
     let et : t ≡ u = cc in
     let en : n ≡ u = cc in
@@ -66,11 +55,11 @@ parts_of {Γ} (parts {t = t} {u = s} {n = n} {m = k} a b) l u v e f =
     (subst₂ (Normal Γ) et en a, subst₂ (Normal Γ) es ek b)
 
 pub no_number : {Γ : Env} {t n : Ty} → Normal Γ t n → (k : ℕ) → t ≡ leaf (numbered k) → ⊥
-no_number (opaque h) k e = clash (cc)
-no_number (unfolds t h m) k e = clash (cc)
-no_number bare k e = clash (cc)
-no_number (part m) k e = clash (cc)
-no_number (parts m l) k e = clash (cc)
+no_number (opaque h) k e = cc
+no_number (unfolds t h m) k e = cc
+no_number bare k e = cc
+no_number (part m) k e = cc
+no_number (parts m l) k e = cc
 
 pub normal_outside : (t : Ty) (Γ : Env) (g : Signature) → Normal (extend Γ g) (on_type out t) (on_type out t) → Normal Γ t t
 normal_outside (leaf (named p x)) Γ g m = opaque (abstract_outside p Γ g x (normal_abstract m (on_path out p) x refl))

@@ -11,13 +11,13 @@ use Rattle.rules.specs.Matching.{Matches}
 use Rattle.rules.specs.Strengthening.{strengthen}
 use Rattle.rules.specs.Syntax.{TypeText, type_of, SignatureText, signature_of, Term, Module, module_path, struct, functor_of, applied, ascribed, Items, no_items, more_items, Item, type_item, let_item, module_item}
 use Rattle.rules.specs.Rules.{item_sort, Undeclared, TermHas, Derives, by_path, by_items, by_functor, by_application, by_signature, by_matching, DerivesAll, no_item, type_too, let_too, module_too}
-use Rattle.rules.proofs.Finding.{clash, at_unique}
+use Rattle.rules.proofs.Finding.{at_unique}
 use Rattle.rules.proofs.Transitive.{knows_gives}
 use Rattle.rules.proofs.Knowing.{reading_along}
 use Rattle.rules.proofs.Properness.{proper_at}
 use Rattle.rules.proofs.Strengthened.{proper_strengthen, strengthened_gives}
 use Rattle.rules.proofs.Wording.{typed_leads, sound_proper, fits_matches}
-use Rattle.rules.proofs.Derived.{derives_proper, derives_unique}
+use Rattle.rules.proofs.Derived.{derives_proper, derives_unique, derives_all_unique}
 use Rattle.checker.specs.Numbered.{Sig, sig, functor_sig, Parts, more_parts, defined_part, value_part, module_part, size_of, size_of_parts, small_sig, Placed, PlacedAll}
 use Rattle.checker.specs.Meanings.{Meaning, itself, meant}
 use Rattle.checker.specs.Copying.{copied, strengthened}
@@ -28,18 +28,15 @@ use Rattle.checker.specs.Texts.{check_type, check_sig}
 use Rattle.checker.specs.Terms.{check_term}
 use Rattle.checker.specs.Modules.{matches, check_path, apply_sig, check_module, check_items, check_item}
 use Rattle.checker.specs.Standing.{entered, Like, LikeAll, ScopeStands, Reached}
-use Rattle.checker.specs.Statements.{NotSize}
+use Rattle.checker.specs.Statements.{NotSize, ModuleLeads}
 use Rattle.checker.specs.Written.{OnceModule, OnceItems, OnceItem}
 use Rattle.checker.proofs.Typing.{TypeRight, type_right, TermRight, term_right}
-use Rattle.checker.proofs.Looking.{LookStands, look}
+use Rattle.checker.proofs.Looking.{look}
 use Rattle.checker.proofs.Entering.{World, later, enter}
 use Rattle.checker.proofs.Signing.{SigRight, sig_right}
 use Rattle.checker.proofs.Copied.{Means, copy_placed, like_copy, like_again}
 use Rattle.checker.proofs.Strength.{strengthened_right, strengthened_placed}
 use Rattle.checker.proofs.Deciding.{VerdictRight, match_right, argument_means}
-
-structure_same : (c c' : Components) → structure c ≡ structure c' → c ≡ c'
-structure_same c c' e = cc
 
 functor_same : (s r s' r' : Signature) → functor s r ≡ functor s' r' → s ≡ s'
 functor_same s r s' r' e = cc
@@ -56,7 +53,7 @@ path_right C G Γ ρ q place p w = go (module_at G p) (look G Γ ρ w.stands p)
     small n m s e a l true = (s, a, m, e, l)
     small n m s e a l false = λ i. absurd (i refl)
 
-    go : (o : Option Sig) → LookStands o p Γ ρ → PathRight {C = C} (and_then (leads_to place o) (λ s. ask_sig place (strengthened q s))) p q Γ ρ
+    go : (o : Option Sig) → ModuleLeads o p Γ ρ → PathRight {C = C} (and_then (leads_to place o) (λ s. ask_sig place (strengthened q s))) p q Γ ρ
     go None k = λ i. k
     go (Some n) k =
         small (strengthened q n) n k.0 refl k.1
@@ -81,7 +78,7 @@ module _ {C : Type 0} (v : ℕ) (rule : Operation → List Ty → Outcome C) (la
   -- a module path
   of_path : {Γ : Env} {place : ℕ} {p : ModulePath} {s : Signature} → Derives rule false Γ (module_path place p) s → (t : Signature) × At Γ p t
   of_path (by_path t a) = (t, a)
-  of_path (by_matching g f d w m) = clash (cc)
+  of_path (by_matching g f d w m) = cc
 
   module_path_right : (place : ℕ) (p : ModulePath) (q : ℕ) (Γ : Env) (ρ : Meaning) (a : Answer C Sig) → PathRight {C = C} a p q Γ ρ → ModuleRight a (module_path place p) q Γ ρ
   module_path_right place p q Γ ρ (ok n) h =
@@ -91,7 +88,7 @@ module _ {C : Type 0} (v : ℕ) (rule : Operation → List Ty → Outcome C) (la
   -- a structure
   of_items : {Γ : Env} {place : ℕ} {is : Items} {s : Signature} → Derives rule false Γ (struct place is) s → (c : Components) × DerivesAll rule false Γ is c
   of_items (by_items {c = c} d) = (c, d)
-  of_items (by_matching g f d w m) = clash (cc)
+  of_items (by_matching g f d w m) = cc
 
   struct_right : (place : ℕ) (is : Items) (q : ℕ) (Γ : Env) (ρ : Meaning) (a : Answer C Parts) → ItemsRight a is q Γ ρ → ModuleRight (and_then a (λ c. ask_sig place (sig c))) (struct place is) q Γ ρ
   struct_right place is q Γ ρ (ok c) h = ask_sig_right place (sig c) (struct place is) q Γ ρ (structure h.0, by_items h.1, h.2, h.3)
@@ -100,7 +97,7 @@ module _ {C : Type 0} (v : ℕ) (rule : Operation → List Ty → Outcome C) (la
   -- a functor
   of_functor : {Γ : Env} {place : ℕ} {s : SignatureText} {m : Module} {t : Signature} → Derives rule false Γ (functor_of place s m) t → Sound Γ (signature_of s) × ((r : Signature) × Derives rule false (extend Γ (signature_of s)) m r)
   of_functor (by_functor {r = r} w d) = (w, (r, d))
-  of_functor (by_matching g f d w m) = clash (cc)
+  of_functor (by_matching g f d w m) = cc
 
   functor_right :
       (place : ℕ) (s : SignatureText) (m : Module) (G : Scope) (Γ : Env) (ρ : Meaning) (q : ℕ) → World G Γ ρ q → (a : Answer C Sig) → SigRight {C = C} a (signature_of s) (suc q) Γ ρ →
@@ -126,7 +123,7 @@ module _ {C : Type 0} (v : ℕ) (rule : Operation → List Ty → Outcome C) (la
       {Γ : Env} {place argument : ℕ} {m : Module} {p : ModulePath} {t : Signature} → Derives rule false Γ (applied place m argument p) t →
       (s : Signature) × (r : Signature) × (a : Signature) × Derives rule false Γ m (functor s r) × At Γ p a × Matches Γ (strengthen p a) s
   of_application (by_application s r a d x k) = (s, r, a, d, x, k)
-  of_application (by_matching g f d w m) = clash (cc)
+  of_application (by_matching g f d w m) = cc
 
   result_right :
       (place argument : ℕ) (m : Module) (p : ModulePath) (G : Scope) (Γ : Env) (ρ : Meaning) (q : ℕ) → World G Γ ρ q → (s r : Sig) (S R : Signature) →
@@ -160,7 +157,7 @@ module _ {C : Type 0} (v : ℕ) (rule : Operation → List Ty → Outcome C) (la
   apply_right place argument m p G Γ ρ q w (sig c) (structure g) d l pl n k A a e la = λ i t z.
       let y = of_application z in
       let f = derives_unique rule y.3 d in
-      clash (cc)
+      cc
   apply_right place argument m p G Γ ρ q w (sig c) (functor S R) d l pl n k A a e la = absurd l
   apply_right place argument m p G Γ ρ q w (functor_sig s r) (structure g) d l pl n k A a e la = absurd l
   apply_right place argument m p G Γ ρ q w (functor_sig s r) (functor S R) d l pl n k A a e la =
@@ -187,7 +184,7 @@ module _ {C : Type 0} (v : ℕ) (rule : Operation → List Ty → Outcome C) (la
       {Γ : Env} {place inner : ℕ} {m : Module} {s : SignatureText} {t : Signature} → Derives rule false Γ (ascribed place inner m s) t →
       (g : Signature) × Derives rule false Γ m g × Sound Γ (signature_of s) × Matches Γ g (signature_of s)
   of_signature (by_signature g d w k) = (g, d, w, k)
-  of_signature (by_matching g f d w m) = clash (cc)
+  of_signature (by_matching g f d w m) = cc
 
   ascribed_right :
       (place inner_place : ℕ) (m : Module) (s : SignatureText) (G : Scope) (Γ : Env) (ρ : Meaning) (q : ℕ) → World G Γ ρ q → (a : Answer C Sig) → ModuleRight a m q Γ ρ →
@@ -214,10 +211,6 @@ module _ {C : Type 0} (v : ℕ) (rule : Operation → List Ty → Outcome C) (la
           t (signature_of s) k.0 (sound_proper (signature_of s) Γ w.proper k.2) k.1 (inl (omega arith)))
       go (fault e) k = λ i t d. k i (of_signature d).2
 
-  -- the items of a structure have one list of components
-  items_one : {Γ : Env} {is : Items} {c c' : Components} → DerivesAll rule false Γ is c → DerivesAll rule false Γ is c' → c ≡ c'
-  items_one {c = c} {c' = c'} d d' = structure_same c c' (derives_unique rule (by_items {place = 0} d) (by_items {place = 0} d'))
-
   of_type : {Γ : Env} {is : Items} {x : Name} {t : TypeText} {c : Components} → DerivesAll rule false Γ (more_items is x (type_item t)) c → (b : Components) × DerivesAll rule false Γ is b × Leads (extend Γ (structure b)) (type_of t)
   of_type (type_too {c = b} d u l) = (b, d, l)
 
@@ -235,7 +228,7 @@ module _ {C : Type 0} (v : ℕ) (rule : Operation → List Ty → Outcome C) (la
   type_item_lem is x t g c q Γ ρ u d l p (ok n) h = (more g x (defined (type_of t)), type_too d u (typed_leads h.1), (l, refl, h), (p, tt))
   type_item_lem is x t g c q Γ ρ u d l p (fault e) h = λ i z y.
       let w = of_type y in
-      h i (subst (λ b. Leads (extend Γ (structure b)) (type_of t)) (items_one w.1 d) w.2)
+      h i (subst (λ b. Leads (extend Γ (structure b)) (type_of t)) (derives_all_unique rule w.1 d) w.2)
 
   let_item_lem :
       (is : Items) (x : Name) (t : Term) (g : Components) (c : Parts) (q : ℕ) (G : Scope) (Γ : Env) (ρ : Meaning) → Undeclared (item_sort (let_item t)) x is →
@@ -246,7 +239,7 @@ module _ {C : Type 0} (v : ℕ) (rule : Operation → List Ty → Outcome C) (la
       (more g x (value (meant (entered (sig c) ρ) n)), let_too d u h.0, (l, refl, (h.1.0, h.1.1)), (p, tt))
   let_item_lem is x t g c q G Γ ρ u d l p k r (fault e) h = λ i z y.
       let w = of_let y in
-      h i w.2.0 (subst (λ b. TermHas rule (extend Γ (structure b)) [] t w.2.0) (items_one w.1 d) w.2.1)
+      h i w.2.0 (subst (λ b. TermHas rule (extend Γ (structure b)) [] t w.2.0) (derives_all_unique rule w.1 d) w.2.1)
 
   module_item_lem :
       (is : Items) (x : Name) (m : Module) (g : Components) (c : Parts) (q : ℕ) (Γ : Env) (ρ : Meaning) → Undeclared (item_sort (module_item m)) x is →
@@ -255,7 +248,7 @@ module _ {C : Type 0} (v : ℕ) (rule : Operation → List Ty → Outcome C) (la
   module_item_lem is x m g c q Γ ρ u d l p (ok n) h = (more g x (nested h.0), module_too d u h.1, (l, refl, h.2), (p, h.3))
   module_item_lem is x m g c q Γ ρ u d l p (fault e) h = λ i z y.
       let w = of_module y in
-      h i w.2.0 (subst (λ b. Derives rule false (extend Γ (structure b)) m w.2.0) (items_one w.1 d) w.2.1)
+      h i w.2.0 (subst (λ b. Derives rule false (extend Γ (structure b)) m w.2.0) (derives_all_unique rule w.1 d) w.2.1)
 
   -- items in turn
   before_right : (is : Items) (x : Name) (i : Item) (q : ℕ) (Γ : Env) (ρ : Meaning) (e : Fault C) → ItemsRight (fault e) is q Γ ρ → ItemsRight (fault e) (more_items is x i) q Γ ρ

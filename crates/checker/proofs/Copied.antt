@@ -1,5 +1,6 @@
 -- A copy stands for what its original stands for along a substitution.
 use Rattle.std.proofs.Common.{◌≡◌, ℕ, suc, ◌+◌, ◌<◌, ◌≤◌, Bool, true, false, cond, eqb, ◌⊎◌, sym, refl, ap, ◌∙◌, subst, ap₂, subst₂, inl, inr, arith}
+use Rattle.std.proofs.lemmas.Bool.{eq-eqb}
 use Rattle.types.specs.Types.{Name, ModulePath, at, dot, named, numbered, Ty, leaf, label0, label1, label2}
 use Rattle.rules.specs.Signatures.{Signature, structure, functor, Components, empty, more, Declaration, abstract, defined, value, nested}
 use Rattle.rules.specs.Substitution.{Substitution, innermost, out, lift, on_type, on_signature, on_components, on_declaration}
@@ -14,7 +15,6 @@ use Rattle.checker.specs.Numbered.{Sig, sig, functor_sig, Parts, no_parts, more_
 use Rattle.checker.specs.Meanings.{Meaning, numbered_type, itself, bind, meant}
 use Rattle.checker.specs.Copying.{copy_sig, copy_parts, copy_part, copied}
 use Rattle.checker.specs.Standing.{NoPaths, StandsFor, calls, calls_all, calls_one, entered, Like, LikeAll, LikeOne}
-use Rattle.checker.proofs.Same.{eqb_self}
 use Rattle.checker.proofs.Carrying.{normal_abstract, normal_outside, normal_weaken, part_of_lem, parts_of, fresh_lift, fresh_abstract}
 use Rattle.checker.proofs.Entering.{Blank, known_below, entered_below, calls_apart, calls_one_apart}
 
@@ -81,7 +81,7 @@ bound_copies k x p f q σ n true e =
       f,
       λ ρ. ap (λ b. cond b (leaf (named p x)) (ρ n)) e,
       ap (λ b. cond b (numbered_type q) (σ n)) e,
-      λ ρ. ap (λ b. cond b (leaf (named p x)) (ρ q)) (eqb_self q),
+      λ ρ. ap (λ b. cond b (leaf (named p x)) (ρ q)) (eq-eqb q q refl),
       omega arith,
       omega arith,
     )

@@ -5,7 +5,7 @@ use Rattle.rules.specs.Signatures.{a_type, a_value, Signature, structure, functo
 use Rattle.rules.specs.Substitution.{Substitution, under, innermost, lift, reading, on_type, on_signature, on_components, on_declaration}
 use Rattle.rules.specs.Lookup.{Env, extend, At, Has, Normal}
 use Rattle.rules.proofs.Algebra.{signature_id, components_reading_lift}
-use Rattle.rules.proofs.Finding.{clash, at_unique, has_unique, normal_unique}
+use Rattle.rules.proofs.Finding.{at_unique, has_unique, normal_unique}
 use Rattle.rules.proofs.Converse.{normal_has, at_has, gives_at}
 use Rattle.rules.proofs.Inner.{Gives, g_structure, g_functor, GivesAll, Fits, f_structure, f_functor, Proper, ProperAll, ProperOne}
 use Rattle.rules.proofs.Transitive.{GivesOne, gives_last}
@@ -102,7 +102,7 @@ results_unfit {σ} {τ} {υ} {s} {r} {s'} {r'} m ih jh Γ ρ a b d x S R A k S' 
     (fits_functor h).1
 
 structure_clash : (Γ : Env) (p : ModulePath) (S R : Signature) → At Γ p (functor S R) → (c : Components) → Gives Γ p (structure c) → ⊥
-structure_clash Γ p S R a c (g_structure g a' m) = let e = at_unique a a' in clash (cc)
+structure_clash Γ p S R a c (g_structure g a' m) = let e = at_unique a a' in cc
 
 value_same : (t u : Ty) → value t ≡ value u → t ≡ u
 value_same t u e = cc

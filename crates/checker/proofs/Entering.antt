@@ -1,11 +1,11 @@
 -- One more binder: a scope that stands for an environment stands for it with a new signature too, if its numbers are new.
 use Rattle.std.proofs.Common.{◌≡◌, ℕ, zero, suc, ◌+◌, ◌<◌, ◌≤◌, Bool, true, false, cond, eqb, ◌⊎◌, Some, None, Option, sym, refl, ap, ◌∙◌, subst, ap₂, subst₂, inl, inr, arith}
+use Rattle.std.proofs.lemmas.Bool.{eqb-true, eq-eqb}
 use native.Mathlib.Decide.{dec_le}
 use Rattle.types.specs.Types.{Name, Head, unit, binder, ModulePath, at, dot, named, numbered, Ty, leaf}
 use Rattle.rules.specs.Signatures.{Sort, a_type, a_module, Signature, structure, functor, Components, empty, more, Declaration, abstract, defined, value, nested, find, on_some}
 use Rattle.rules.specs.Substitution.{outward, innermost, on_path, out, on_type, on_signature}
 use Rattle.rules.specs.Lookup.{Env, extend, Normal}
-use Rattle.rules.proofs.Finding.{clash}
 use Rattle.rules.proofs.Inner.{Proper, ProperAll, ProperOne, ProperEnv}
 use Rattle.rules.proofs.Knowing.{out_along}
 use Rattle.rules.proofs.Properness.{proper_extend}
@@ -14,14 +14,14 @@ use Rattle.checker.specs.Meanings.{Meaning, numbered_type}
 use Rattle.checker.specs.Scope.{Scope, inner, part_of, module_of, type_of_part, module_at, type_at}
 use Rattle.checker.specs.Failing.{Once, OnceAll, OnceIn}
 use Rattle.checker.specs.Standing.{calls, calls_all, calls_one, entered, Like, LikeAll, LikeOne, Called, CalledAll, CalledOne, HeadStands, ScopeStands, Reached}
-use Rattle.checker.proofs.Same.{eqb_equal, eqb_self}
 use Rattle.checker.proofs.Itself.{found_last, found_before}
 use Rattle.checker.proofs.Carrying.{no_number, normal_outside, normal_weaken, Carry, like_along}
-use Rattle.checker.proofs.Looking.{like_found, like_sort, Both, TypeStands, look_type}
+use Rattle.checker.proofs.Looking.{like_found, like_sort, Both, look_type}
+use Rattle.checker.specs.Statements.{TypeLeads}
 
 -- numbers outside the places of a signature are called as before
 apart_one : (j : ℕ) (t : Ty) (ρ : Meaning) (n : ℕ) → (n ≡ j → ⊥) → (b : Bool) → eqb n j ≡ b → cond (eqb n j) t (ρ n) ≡ ρ n
-apart_one j t ρ n h true e = absurd (h (eqb_equal n j e))
+apart_one j t ρ n h true e = absurd (h (eqb-true n j e))
 apart_one j t ρ n h false e = ap (λ b. cond b t (ρ n)) e
 
 mutual
@@ -76,7 +76,7 @@ mutual
   )
 
   calls_one_called : (d : Part) (x : Name) (p : ModulePath) (q : ℕ) (ρ : Meaning) → PlacedOne q d → CalledOne p x d (calls_one p x d ρ)
-  calls_one_called (abstract_part j) x p q ρ w = ap (λ b. cond b (leaf (named p x)) (ρ j)) (eqb_self j)
+  calls_one_called (abstract_part j) x p q ρ w = ap (λ b. cond b (leaf (named p x)) (ρ j)) (eq-eqb j j refl)
   calls_one_called (defined_part t) x p q ρ w = tt
   calls_one_called (value_part t) x p q ρ w = tt
   calls_one_called (module_part s) x p q ρ w = calls_called s (dot p x) (suc q) ρ w
@@ -103,7 +103,7 @@ none_both c g Γ ρ s x l e = go (find_part s x c) (find s x g) e (like_found c 
     go : (o : Option Part) (o' : Option Declaration) → o' ≡ None → Both c g Γ ρ o o' → o ≡ None
     go None o' e b = refl
     go (Some d) None e b = absurd b
-    go (Some d) (Some d') e b = clash (cc)
+    go (Some d) (Some d') e b = cc
 
 -- what stands for a proper signature declares each sort and name once
 mutual
@@ -149,7 +149,7 @@ bound_reach :
     (G : Scope) (k : ℕ) (x : Name) (p : ModulePath) (n : ℕ) (b : Bool) → eqb n k ≡ b → part_of a_type x (module_at G p) ≡ Some (abstract_part k) →
     Reaches G (calls_one p x (abstract_part k)) n
 bound_reach G k x p n true e f =
-    inl (p, x, λ ρ. ap (λ b. cond b (leaf (named p x)) (ρ n)) e, ap type_of_part f ∙ ap (λ z. Some (numbered_type z)) (sym (eqb_equal n k e)))
+    inl (p, x, λ ρ. ap (λ b. cond b (leaf (named p x)) (ρ n)) e, ap type_of_part f ∙ ap (λ z. Some (numbered_type z)) (sym (eqb-true n k e)))
 bound_reach G k x p n false e f = inr (λ ρ. ap (λ b. cond b (leaf (named p x)) (ρ n)) e)
 
 mutual
@@ -216,7 +216,7 @@ carry_out Γ ρ q b n s w i m =
 called_outward : (Γ : Env) (ρ : Meaning) (q : ℕ) → Blank q ρ → (n : Sig) → Placed q n → (s : Sig) (p : ModulePath) → Called p s ρ → Called (on_path out p) s (entered n ρ)
 called_outward Γ ρ q b n w s p k =
     called_out s p ρ (entered n ρ)
-    (λ i r y e. entered_below n q ρ i w (below b i (λ f. clash (cc))) ∙ ap (on_type out) e) k
+    (λ i r y e. entered_below n q ρ i w (below b i (λ f. cc)) ∙ ap (on_type out) e) k
 
 head_out :
     (Γ : Env) (ρ : Meaning) (q : ℕ) → Blank q ρ → (n : Sig) (s : Signature) → Placed q n → (o : Option Sig) (o' : Option Signature) (h : Head) →
@@ -273,7 +273,7 @@ enter {G} {Γ} {ρ} {q} w n s l p d =
         go : Reaches (inner G n) (calls innermost n) i → (entered n ρ i ≡ numbered_type i) ⊎ Normal (extend Γ s) (entered n ρ i) (entered n ρ i)
         go (inl v) =
             let e = v.2 (λ j. on_type out (ρ j)) in
-            let t : TypeStands (Some (numbered_type i)) v.0 v.1 (extend Γ s) (entered n ρ) =
-            subst (λ o. TypeStands o v.0 v.1 (extend Γ s) (entered n ρ)) v.3 (look_type (inner G n) (extend Γ s) (entered n ρ) heads v.0 v.1) in
+            let t : TypeLeads (Some (numbered_type i)) v.0 v.1 (extend Γ s) (entered n ρ) =
+            subst (λ o. TypeLeads o v.0 v.1 (extend Γ s) (entered n ρ)) v.3 (look_type (inner G n) (extend Γ s) (entered n ρ) heads v.0 v.1) in
             inr (subst (λ z. Normal (extend Γ s) z (entered n ρ i)) (sym e) t.1)
         go (inr v) = rest (v (λ j. on_type out (ρ j))) (w.settled i)

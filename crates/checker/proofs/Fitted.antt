@@ -11,7 +11,6 @@ use Rattle.rules.specs.Matching.{Matches}
 use Rattle.rules.specs.Syntax.{TypeText, path_text, label_text0, label_text1, label_text2, type_of, SignatureText, sig_text, functor_text, SpecTexts, no_specs, more_specs, SpecText, abstract_spec, defined_spec, value_spec, module_spec, signature_of, components_of, declaration_of, CompilationUnit}
 use Rattle.rules.specs.Rules.{Derives}
 use Rattle.rules.specs.Projects.{Units, Loads, DerivedFor}
-use Rattle.rules.proofs.Finding.{clash}
 use Rattle.rules.proofs.Wording.{sound_proper, fits_matches}
 use Rattle.rules.proofs.Derived.{derives_proper}
 use Rattle.rules.proofs.Theorems.{derived_exactly, own_is_one}
@@ -42,12 +41,12 @@ lacks_extend G Γ s h x e = ap (on_some (on_signature out)) (h x e)
 
 -- a path whose head names no known unit leads nowhere
 unknown_at : (G : Scope) (Γ : Env) → Lacks G Γ → (place : ℕ) (p : ModulePath) (l : ℕ) → unknown_in G place p ≡ Some l → (s : Signature) → At Γ p s → ⊥
-unknown_at G Γ h place (at (binder n)) l e s a = clash (cc)
+unknown_at G Γ h place (at (binder n)) l e s a = cc
 unknown_at G Γ h place (at (unit x)) l e s (head f) = go (G (unit x)) refl e
   where
     go : (o : Option Sig) → G (unit x) ≡ o → unknown_here place o ≡ Some l → ⊥
-    go None i j = let z = h x i in clash (cc)
-    go (Some n) i j = clash (cc)
+    go None i j = let z = h x i in cc
+    go (Some n) i j = cc
 unknown_at G Γ h place (dot p x) l e s (inside c d a f r) = unknown_at G Γ h place p l e (structure c) a
 
 -- the first of two places is in one or in the other
@@ -57,7 +56,7 @@ first_cases None o' l e = inr e
 
 unknown_type : (G : Scope) (Γ : Env) → Lacks G Γ → (t : TypeText) (l : ℕ) → unknown_in_type G t ≡ Some l → Leads Γ (type_of t) → ⊥
 unknown_type G Γ h (path_text place p x) l e d = unknown_at G Γ h place p l e (structure d.1.components) d.1.leads
-unknown_type G Γ h (label_text0 place k) l e d = clash (cc)
+unknown_type G Γ h (label_text0 place k) l e d = cc
 unknown_type G Γ h (label_text1 place k t) l e d = unknown_type G Γ h t l e d
 unknown_type G Γ h (label_text2 place k t u) l e d = go (unknown_type G Γ h t l) (unknown_type G Γ h u l) (first_cases (unknown_in_type G t) (unknown_in_type G u) l e)
   where
@@ -82,13 +81,13 @@ mutual
       (λ i. unknown_sig r G (extend Γ (signature_of s)) (lacks_extend G Γ (signature_of s) h) l i d.1)
 
   unknown_specs : (c : SpecTexts) (G : Scope) (Γ : Env) → Lacks G Γ → (l : ℕ) → unknown_in_specs G c ≡ Some l → SoundAll Γ (components_of c) → ⊥
-  unknown_specs no_specs G Γ h l e d = clash (cc)
+  unknown_specs no_specs G Γ h l e d = cc
   unknown_specs (more_specs c x s) G Γ h l e d =
       either_unknown (unknown_in_specs G c) (unknown_in_spec G s) l e (λ i. unknown_specs c G Γ h l i d.0)
       (λ i. unknown_spec s G (extend Γ (structure (components_of c))) (lacks_extend G Γ (structure (components_of c)) h) l i d.2)
 
   unknown_spec : (s : SpecText) (G : Scope) (Γ : Env) → Lacks G Γ → (l : ℕ) → unknown_in_spec G s ≡ Some l → SoundOne Γ (declaration_of s) → ⊥
-  unknown_spec abstract_spec G Γ h l e d = clash (cc)
+  unknown_spec abstract_spec G Γ h l e d = cc
   unknown_spec (defined_spec t) G Γ h l e d = unknown_type G Γ h t l e d
   unknown_spec (value_spec t) G Γ h l e d = unknown_type G Γ h t l e d
   unknown_spec (module_spec s) G Γ h l e d = unknown_sig s G Γ h l e d

@@ -5,7 +5,7 @@ use Rattle.rules.specs.Signatures.{a_type, a_module, Signature}
 use Rattle.rules.specs.Substitution.{Substitution, innermost, on_path, out, lift, reading, on_type, on_signature}
 use Rattle.rules.specs.Lookup.{Env, extend, Normal, opaque, unfolds, bare, part, parts}
 use Rattle.rules.proofs.Algebra.{after, type_comp, type_lift_out}
-use Rattle.rules.proofs.Finding.{clash, normal_normal}
+use Rattle.rules.proofs.Finding.{normal_normal}
 use Rattle.rules.proofs.Fresh.{Fresh, fresh_head, fresh_dot, split}
 use Rattle.rules.proofs.Strengthened.{path_reading_out}
 use native.Mathlib.Decide.{dec_le}
@@ -111,13 +111,13 @@ pub record Inside (a k : ℕ) (s : Sig) (f g : Meaning) : Type 0 where
 pub inside_found :
     (c : Parts) (a : ℕ) (f g : Meaning) → PlacedAll a c → PlainInAll a c f → PlainInAll a c g → (x : Name) (s : Sig) →
     find_part a_module x c ≡ Some (module_part s) → Inside a (size_of_parts c) s f g
-inside_found no_parts a f g w h i x s e = clash (cc)
+inside_found no_parts a f g w h i x s e = cc
 inside_found (more_parts c y d) a f g w h i x s e = go (inside_found c a f g w.0 h.0 i.0 x s) (part_cases c y d a_module x (module_part s) e)
   where
     last : (d : Part) → PlacedOne (a + size_of_parts c) d → PlainInOne (a + size_of_parts c) d f → PlainInOne (a + size_of_parts c) d g → d ≡ module_part s → Inside a (size_of_parts c + suc (size_of_part d)) s f g
-    last (abstract_part n) w h i e = clash (cc)
-    last (defined_part t) w h i e = clash (cc)
-    last (value_part t) w h i e = clash (cc)
+    last (abstract_part n) w h i e = cc
+    last (defined_part t) w h i e = cc
+    last (value_part t) w h i e = cc
     last (module_part t) w h i e =
         let q : t ≡ s = cc in
         let z = ap size_of q in
@@ -230,7 +230,7 @@ back_own :
     (o : ((q : ModulePath) × (on_path out q ≡ p)) ⊎ Fresh p) → back_of b n p x o ≡ t
 back_own b n p x t e (inl w) =
     let f : type_at (inner nothing n) p x ≡ None = subst (λ z. type_at (inner nothing n) z x ≡ None) w.1 (nothing_out n w.0 x) in
-    clash (cc)
+    cc
 back_own b n p x t e (inr f) = ap or_label e
 
 pub recovers_enter : (Γ : Env) (ρ : Meaning) → Recovers Γ ρ → (n : Sig) → Once n → (s : Signature) → Recovers (extend Γ s) (entered n ρ)
@@ -263,7 +263,7 @@ pub own_in : (n : Sig) (p : ModulePath) (a : ℕ) → Placed a n → (i : ℕ) (
 own_in n p a w i r x e = go (dec_le a i) (dec_le (a + size_of n) i)
   where
     out_of : (a ≤ i → i < a + size_of n → ⊥) → (a ≤ i) × (i < a + size_of n)
-    out_of h = let f = calls_apart n p a itself i w h in let g = e itself in clash (cc)
+    out_of h = let f = calls_apart n p a itself i w h in let g = e itself in cc
 
     go : Dec (a ≤ i) → Dec (a + size_of n ≤ i) → (a ≤ i) × (i < a + size_of n)
     go (no k) d = out_of (λ u v. k u)

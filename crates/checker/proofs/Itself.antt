@@ -1,29 +1,22 @@
 -- A signature matches itself.
 use Rattle.std.proofs.Common.{◌≡◌, ℕ, zero, suc, ◌+◌, ◌<◌, ◌≤◌, Bool, true, false, cond, ◌&&◌, eqb, Some, None, Option, sym, refl, ap, ◌∙◌, ap₂, arith}
-use mathlib.Core.Path.{fun_ext}
+use Rattle.std.proofs.Math.Path.{fun_ext}
 use Rattle.std.specs.Str.{bytes_eq}
-use Rattle.types.specs.Types.{Name, named, numbered, Ty, leaf, label0, label1, label2, same}
+use Rattle.std.proofs.lemmas.Bool.{eqb-true}
+use Rattle.types.specs.Types.{Name, Ty, same}
+use Rattle.types.proofs.Same.{same_self}
 use Rattle.rules.specs.Signatures.{Sort, same_sort, first_of}
 use Rattle.rules.proofs.Finding.{same_sort_self, same_bytes_self}
 use Rattle.checker.specs.Numbered.{Sig, sig, functor_sig, Parts, no_parts, more_parts, Part, abstract_part, defined_part, value_part, module_part, sort_of_part, find_part, size_of, size_of_parts, size_of_part}
 use Rattle.checker.specs.Meanings.{numbered_type, itself, bind, meant}
 use Rattle.checker.specs.Comparing.{matched, onward, asked, Matcher, match_part, match_parts, match_with, match_to}
 use Rattle.checker.specs.Failing.{Once, OnceAll, OnceIn, MatchesItself}
-use Rattle.rules.proofs.Equality.{same_self}
-use Rattle.checker.proofs.Same.{eqb_equal}
-
-pub meant_itself : (t : Ty) → meant itself t ≡ t
-meant_itself (leaf (named p x)) = refl
-meant_itself (leaf (numbered n)) = refl
-meant_itself (label0 l) = refl
-meant_itself (label1 l t) = ap (label1 l) (meant_itself t)
-meant_itself (label2 l t u) = ap₂ (label2 l) (meant_itself t) (meant_itself u)
 
 bind_itself : (n : ℕ) → bind n (numbered_type n) itself ≡ itself
 bind_itself n = fun_ext (λ m. go m (eqb m n) refl)
   where
     go : (m : ℕ) (b : Bool) → eqb m n ≡ b → cond b (numbered_type n) (itself m) ≡ itself m
-    go m true e = ap numbered_type (sym (eqb_equal m n e))
+    go m true e = ap numbered_type (sym (eqb-true m n e))
     go m false e = refl
 
 asked_self : (t : Ty) (x : Name) (c : _) → asked (same (meant itself t) (meant itself t)) x c itself ≡ matched itself
@@ -63,7 +56,7 @@ with_itself n m h (functor_sig s r) x o l =
     ∙ ap (λ v. onward v (λ φ. matched itself)) (h r x o.1 (omega arith))
 
 to_itself : (n : ℕ) → Selfish n (match_to n)
-to_itself zero s x o l = absurd (let z : ⊥ = omega arith in z)
+to_itself zero s x o l = absurd (omega arith)
 to_itself (suc n) s x o l = with_itself n (match_to n) (to_itself n) s x o l
 
 pub matches_itself : MatchesItself

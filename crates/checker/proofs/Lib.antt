@@ -1,4 +1,3 @@
-pub mod Same
 pub mod Settled
 pub mod Itself
 pub mod Carrying
@@ -16,5 +15,3 @@ pub mod Checking
 pub mod Loading
 pub mod Fitted
 pub mod Placing
-pub mod Samples
-pub mod Limits

@@ -12,12 +12,13 @@ use Rattle.rules.specs.Syntax.{CompilationUnit}
 use Rattle.rules.specs.Rules.{Derives}
 use Rattle.rules.specs.Projects.{Units, no_units, more_units, Loads, start, next}
 use Rattle.rules.proofs.Algebra.{type_id, signature_id}
-use Rattle.rules.proofs.Finding.{clash, same_bytes_self}
+use Rattle.rules.proofs.Finding.{same_bytes_self}
 use Rattle.rules.proofs.Inner.{Proper}
 use Rattle.rules.proofs.Along.{From}
 use Rattle.rules.proofs.Exact.{Exact, exact_at}
 use Rattle.rules.proofs.Derived.{derives_proper}
-use Rattle.rules.proofs.Project.{unit_along, unit_proper, loads_freely, loads_unique, loads_principal}
+use Rattle.rules.proofs.Project.{unit_along, unit_proper, loads_freely, loads_unique, loads_principal, unit_kept}
+use Rattle.rules.proofs.Settling.{normal_exactly}
 use Rattle.checker.specs.Numbered.{Sig, sig, functor_sig, Parts, no_parts, more_parts, Part, abstract_part, defined_part, value_part, module_part, size_of, Placed}
 use Rattle.checker.specs.Meanings.{Meaning, numbered_type, itself}
 use Rattle.checker.specs.Scope.{Scope, nothing, with_unit_of, part_of, module_of, type_of_part, module_at, type_at}
@@ -25,9 +26,9 @@ use Rattle.checker.specs.Faults.{Answer, ok, fault}
 use Rattle.checker.specs.Modules.{check_module}
 use Rattle.checker.specs.Units.{Known, CheckAnswer, accepted, refused, after_unit, check_next, check_units}
 use Rattle.checker.specs.Standing.{calls, Like, Called, CalledAll, CalledOne, HeadStands, ScopeStands, Reached}
-use Rattle.checker.specs.Statements.{Unnamed, OnceUnits, NotSize, NoSize, Accepts, Decided, CheckDecides, AcceptanceLaw}
-use Rattle.checker.proofs.Carrying.{normal_exactly, no_number, Carry, like_along}
-use Rattle.checker.proofs.Looking.{TypeStands, look_type}
+use Rattle.checker.specs.Statements.{Unnamed, OnceUnits, NotSize, NoSize, Accepts, Decided, CheckDecides, AcceptanceLaw, TypeLeads}
+use Rattle.checker.proofs.Carrying.{no_number, Carry, like_along}
+use Rattle.checker.proofs.Looking.{look_type}
 use Rattle.checker.proofs.Entering.{calls_apart, calls_called, like_once, Reaches, calls_reach, Blank, known_below, Settled, World}
 use Rattle.checker.proofs.Checking.{ModuleRight, module_right}
 
@@ -47,18 +48,6 @@ mutual
   called_one_kept (value_part t) x p ρ υ h k = tt
   called_one_kept (module_part s) x p ρ υ h k = called_kept s (dot p x) ρ υ h k
 
--- what is known stays known with one more unit
-unit_kept : (x : Name) (s : Signature) (Γ : Env) → Γ (unit x) ≡ None → (h : Head) (t : Signature) → Γ h ≡ Some t → with_unit x s Γ h ≡ Some t
-unit_kept x s Γ f (unit y) t e = go (bytes_eq x y) refl
-  where
-    go : (b : Bool) → bytes_eq x y ≡ b → cond b (Some s) (Γ (unit y)) ≡ Some t
-    go true q =
-        let i = (bytes_eq-Decides x y).0 q in
-        let j : Γ (unit x) ≡ Some t = ap (λ z. Γ (unit z)) i ∙ e in
-        clash (cc)
-    go false q = e
-unit_kept x s Γ f (binder n) t e = e
-
 unit_exact : (x : Name) (s : Signature) (Γ : Env) → Γ (unit x) ≡ None → From Exact at Γ (with_unit x s Γ)
 unit_exact x s Γ f h t e = subst (Exact (with_unit x s Γ) (at h)) (sym (signature_id t)) (exact_at (head (unit_kept x s Γ f h t e)))
 
@@ -73,7 +62,7 @@ scope_kept x s G f (unit y) t e = go (bytes_eq x y) refl
     go true q =
         let i = (bytes_eq-Decides x y).0 q in
         let j : G (unit x) ≡ Some t = ap (λ z. G (unit z)) i ∙ e in
-        clash (cc)
+        cc
     go false q = e
 scope_kept x s G f (binder n) t e = e
 
@@ -82,14 +71,14 @@ module_kept x s G f (at h) t e = scope_kept x s G f h t e
 module_kept x s G f (dot p y) t e = go (module_at G p) refl (module_kept x s G f p) e
   where
     go : (o : Option Sig) → module_at G p ≡ o → ((n : Sig) → module_at G p ≡ Some n → module_at (with_unit_of x s G) p ≡ Some n) → module_of (part_of a_module y o) ≡ Some t → module_at (with_unit_of x s G) (dot p y) ≡ Some t
-    go None i ih j = clash (cc)
+    go None i ih j = cc
     go (Some n) i ih j = ap (λ o. module_of (part_of a_module y o)) (ih n i) ∙ j
 
 type_kept : (x : Name) (s : Sig) (G : Scope) → G (unit x) ≡ None → (p : ModulePath) (y : Name) (t : Ty) → type_at G p y ≡ Some t → type_at (with_unit_of x s G) p y ≡ Some t
 type_kept x s G f p y t e = go (module_at G p) refl e
   where
     go : (o : Option Sig) → module_at G p ≡ o → type_of_part (part_of a_type y o) ≡ Some t → type_at (with_unit_of x s G) p y ≡ Some t
-    go None i j = clash (cc)
+    go None i j = cc
     go (Some n) i j = ap (λ o. type_of_part (part_of a_type y o)) (module_kept x s G f p n i) ∙ j
 
 pub none_none : (G : Scope) (Γ : Env) (ρ : Meaning) → ScopeStands G Γ ρ → (h : Head) → G h ≡ None → Γ h ≡ None
@@ -98,7 +87,7 @@ none_none G Γ ρ k h e = go (G h) (Γ h) e (k h)
     go : (o : Option Sig) (o' : Option Signature) → o ≡ None → HeadStands o o' h Γ ρ → o' ≡ None
     go o None e k = refl
     go None (Some s) e k = absurd k
-    go (Some n) (Some s) e k = clash (cc)
+    go (Some n) (Some s) e k = cc
 
 -- one more unit
 pub enter_unit :
@@ -126,7 +115,7 @@ enter_unit {G} {Γ} {ρ} {q} w x e n s l p d =
     called_here m r k = called_kept m r ρ (calls (at (unit x)) n ρ) (λ i a y f. kept i a y f (w.settled i)) k
       where
         kept : (i : ℕ) (a : ModulePath) (y : Name) → ρ i ≡ leaf (named a y) → (ρ i ≡ numbered_type i) ⊎ Normal Γ (ρ i) (ρ i) → calls (at (unit x)) n ρ i ≡ leaf (named a y)
-        kept i a y f (inl g) = clash (cc)
+        kept i a y f (inl g) = cc
         kept i a y f (inr m') = same i (known_below w.blank i m') ∙ f
 
     old : (o : Option Sig) (o' : Option Signature) (h : Head) → HeadStands o o' h Γ ρ → HeadStands o o' h (with_unit x s Γ) (calls (at (unit x)) n ρ)
@@ -174,8 +163,8 @@ enter_unit {G} {Γ} {ρ} {q} w x e n s l p d =
 
         go : Reaches (with_unit_of x n G) (calls (at (unit x)) n) i → (calls (at (unit x)) n ρ i ≡ numbered_type i) ⊎ Normal (with_unit x s Γ) (calls (at (unit x)) n ρ i) (calls (at (unit x)) n ρ i)
         go (inl v) =
-            let t : TypeStands (Some (numbered_type i)) v.0 v.1 (with_unit x s Γ) (calls (at (unit x)) n ρ) =
-            subst (λ o. TypeStands o v.0 v.1 (with_unit x s Γ) (calls (at (unit x)) n ρ)) v.3
+            let t : TypeLeads (Some (numbered_type i)) v.0 v.1 (with_unit x s Γ) (calls (at (unit x)) n ρ) =
+            subst (λ o. TypeLeads o v.0 v.1 (with_unit x s Γ) (calls (at (unit x)) n ρ)) v.3
             (look_type (with_unit_of x n G) (with_unit x s Γ) (calls (at (unit x)) n ρ) heads v.0 v.1) in
             inr (subst (λ z. Normal (with_unit x s Γ) z (calls (at (unit x)) n ρ i)) (sym (v.2 ρ)) t.1)
         go (inr v) = rest (v ρ) (w.settled i)
@@ -188,7 +177,7 @@ world_start =
       reached = λ n m. absurd (no_number m n refl);
       blank = λ n h. refl;
       settled = λ n. inl refl;
-      proper = λ h s e. clash (cc);
+      proper = λ h s e. (cc);
     }
 
 module _ {C : Type 0} (v : ℕ) (rule : Operation → List Ty → Outcome C) (law : Stable v rule) where

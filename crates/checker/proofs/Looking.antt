@@ -1,14 +1,15 @@
 -- Where a path leads in a scope stands for where it leads in the environment.
 use Rattle.std.proofs.Common.{◌≡◌, ℕ, Bool, true, false, cond, ◌&&◌, eqb, ◌⊎◌, Some, None, Option, sym, refl, ap, ◌∙◌, subst, ap₂, subst₂, inl, inr}
-use mathlib.Core.Path.{fun_ext}
+use Rattle.std.proofs.Math.Path.{fun_ext}
 use Rattle.std.specs.Str.{bytes_eq}
 use Rattle.std.proofs.lemmas.Slice.Eq.{bytes_eq-Decides}
+use Rattle.std.proofs.lemmas.Bool.{eqb-true}
 use Rattle.types.specs.Types.{Name, Head, ModulePath, at, dot, named, Ty, leaf}
 use Rattle.rules.specs.Signatures.{Sort, a_type, a_value, a_module, Signature, structure, functor, Components, empty, more, Declaration, abstract, defined, value, nested, sort_of, same_sort, first_of, find}
 use Rattle.rules.specs.Substitution.{Substitution, innermost, on_path, out, reading, on_type, on_declaration}
 use Rattle.rules.specs.Lookup.{Env, extend, At, head, Has, Normal, opaque, unfolds}
 use Rattle.rules.proofs.Algebra.{signature_id, type_reading_out}
-use Rattle.rules.proofs.Finding.{clash, same_sort_is, at_unique, Begins, all, onward}
+use Rattle.rules.proofs.Finding.{same_sort_is, at_unique, Begins, all, onward}
 use Rattle.rules.proofs.Along.{From, under_from}
 use Rattle.rules.proofs.Exact.{Exact, exact_laws, longer}
 use Rattle.rules.proofs.Transitive.{knows_exact}
@@ -16,12 +17,13 @@ use Rattle.rules.proofs.Knowing.{reading_along}
 use Rattle.rules.proofs.Reflexive.{has_at}
 use Rattle.rules.proofs.Converse.{at_has}
 use Rattle.rules.proofs.Properness.{has_sort}
+use Rattle.rules.proofs.Settling.{normal_exactly}
 use Rattle.checker.specs.Numbered.{Sig, sig, functor_sig, Parts, no_parts, more_parts, Part, abstract_part, defined_part, value_part, module_part, sort_of_part, find_part}
 use Rattle.checker.specs.Meanings.{Meaning, numbered_type}
 use Rattle.checker.specs.Scope.{Scope, part_of, module_of, type_of_part, value_of_part, module_at, type_at, value_at}
 use Rattle.checker.specs.Standing.{StandsFor, calls, calls_all, calls_one, entered, Like, LikeAll, LikeOne, Called, CalledAll, CalledOne, HeadStands, ScopeStands}
-use Rattle.checker.proofs.Same.{eqb_equal}
-use Rattle.checker.proofs.Carrying.{normal_exactly, Carry, like_one_along}
+use Rattle.checker.proofs.Carrying.{Carry, like_one_along}
+use Rattle.checker.specs.Statements.{ModuleLeads, TypeLeads, ValueLeads}
 
 -- components that others begin with
 pub data Starts (c : Parts) : Parts → Type 0 where
@@ -67,8 +69,8 @@ like_found (more_parts c y e) (more g z d) Γ ρ l s x =
         (o : Option Part) (o' : Option Declaration) → Both c g Γ ρ o o' → (b b' : Bool) → b ≡ b' →
         Both (more_parts c y e) (more g z d) Γ ρ (first_of o (cond b (Some e) None)) (first_of o' (cond b' (Some d) None))
     go None None w true true q = (c, g, further whole, onward all, l.2)
-    go None None w true false q = clash (cc)
-    go None None w false true q = clash (cc)
+    go None None w true false q = cc
+    go None None w false true q = cc
     go None None w false false q = tt
     go None (Some d') w b b' q = absurd w
     go (Some e') None w b b' q = absurd w
@@ -86,11 +88,11 @@ part_cases c y e s x d = go (find_part s x c) (same_sort s (sort_of_part e)) ref
         (o ≡ Some d) ⊎ ((o ≡ None) × (e ≡ d) × (sort_of_part e ≡ s) × (y ≡ x))
     go (Some d') a p b q f = inl f
     go None true p true q f = inr (refl, cc, sym (same_sort_is s (sort_of_part e) p), sym ((bytes_eq-Decides x y).0 q))
-    go None true p false q f = clash (cc)
-    go None false p b q f = clash (cc)
+    go None true p false q f = cc
+    go None false p b q f = cc
 
 pub called_found : (c : Parts) (p : ModulePath) (ρ : Meaning) → CalledAll p c ρ → (s : Sort) (x : Name) (e : Part) → find_part s x c ≡ Some e → CalledOne p x e ρ
-called_found no_parts p ρ k s x e f = clash (cc)
+called_found no_parts p ρ k s x e f = cc
 called_found (more_parts c y d) p ρ k s x e f = go (called_found c p ρ k.0 s x e) (part_cases c y d s x e f)
   where
     go :
@@ -108,7 +110,7 @@ cond_on θ true t u = refl
 cond_on θ false t u = refl
 
 bound_same : (j : ℕ) (t : Ty) (ρ : Meaning) → ρ j ≡ t → (n : ℕ) (b : Bool) → eqb n j ≡ b → cond (eqb n j) t (ρ n) ≡ ρ n
-bound_same j t ρ k n true e = ap (λ b. cond b t (ρ n)) e ∙ (sym k ∙ ap ρ (sym (eqb_equal n j e)))
+bound_same j t ρ k n true e = ap (λ b. cond b t (ρ n)) e ∙ (sym k ∙ ap ρ (sym (eqb-true n j e)))
 bound_same j t ρ k n false e = ap (λ b. cond b t (ρ n)) e
 
 -- calling goes along a substitution
@@ -175,22 +177,18 @@ like_one_at Γ p g c ρ w k b a i j e d l =
     (reading_along Γ p (structure a) (knows_exact x))
     (carry_reading (sig b) (structure a) Γ p ρ x (called_starts i p ρ k)) l
 
--- a module that a path leads to, and a component there
-abbrev pub LookStands : Option Sig → ModulePath → Env → Meaning → Type 0
-LookStands None p Γ ρ = (s : Signature) → At Γ p s → ⊥
-LookStands (Some n) p Γ ρ = (s : Signature) × At Γ p s × Like n s Γ ρ × Called p n ρ
-
+-- a component there
 abbrev pub PartStands : Option Part → Sort → ModulePath → Name → Env → Meaning → Type 0
 PartStands None s p x Γ ρ = (d : Declaration) → Has Γ p s x d → ⊥
 PartStands (Some e) s p x Γ ρ = (d : Declaration) × Has Γ p s x d × LikeOne e d Γ ρ × CalledOne p x e ρ
 
-pub look_part : (o : Option Sig) (p : ModulePath) (Γ : Env) (ρ : Meaning) → LookStands o p Γ ρ → (s : Sort) (x : Name) → PartStands (part_of s x o) s p x Γ ρ
+pub look_part : (o : Option Sig) (p : ModulePath) (Γ : Env) (ρ : Meaning) → ModuleLeads o p Γ ρ → (s : Sort) (x : Name) → PartStands (part_of s x o) s p x Γ ρ
 look_part None p Γ ρ k s x = λ d h. k (structure h.components) h.leads
 look_part (Some (functor_sig n m)) p Γ ρ k s x = λ d h. go k.0 k.1 k.2 d h
   where
     go : (t : Signature) → At Γ p t → Like (functor_sig n m) t Γ ρ → (d : Declaration) → Has Γ p s x d → ⊥
     go (structure g) a l d h = l
-    go (functor t r) a l d h = let e = at_unique a h.leads in clash (cc)
+    go (functor t r) a l d h = let e = at_unique a h.leads in cc
 look_part (Some (sig c)) p Γ ρ k s x = go k.0 k.1 k.2 k.3
   where
     not_found : (g : Components) → At Γ p (structure g) → find s x g ≡ None → (d : Declaration) → Has Γ p s x d → ⊥
@@ -198,7 +196,7 @@ look_part (Some (sig c)) p Γ ρ k s x = go k.0 k.1 k.2 k.3
         let u = at_unique a h.leads in
         let f = h.found in
         let i : g ≡ h.components = cc in
-        clash (cc)
+        cc
 
     found_both :
         (g : Components) → At Γ p (structure g) → CalledAll p c ρ → (o : Option Part) → find_part s x c ≡ o → (o' : Option Declaration) → find s x g ≡ o' →
@@ -218,43 +216,38 @@ look_part (Some (sig c)) p Γ ρ k s x = go k.0 k.1 k.2 k.3
     go (functor t r) a l q = absurd l
 
 -- a module component's signature
-pub part_module : (o : Option Part) (p : ModulePath) (x : Name) (Γ : Env) (ρ : Meaning) → PartStands o a_module p x Γ ρ → LookStands (module_of o) (dot p x) Γ ρ
+pub part_module : (o : Option Part) (p : ModulePath) (x : Name) (Γ : Env) (ρ : Meaning) → PartStands o a_module p x Γ ρ → ModuleLeads (module_of o) (dot p x) Γ ρ
 part_module None p x Γ ρ k = λ s a. k (nested s) (at_has a)
 part_module (Some (abstract_part n)) p x Γ ρ k =
-    let i = like_sort (abstract_part n) k.0 Γ ρ k.2 in let j = has_sort k.1 in clash (cc)
+    let i = like_sort (abstract_part n) k.0 Γ ρ k.2 in let j = has_sort k.1 in cc
 part_module (Some (defined_part t)) p x Γ ρ k =
-    let i = like_sort (defined_part t) k.0 Γ ρ k.2 in let j = has_sort k.1 in clash (cc)
+    let i = like_sort (defined_part t) k.0 Γ ρ k.2 in let j = has_sort k.1 in cc
 part_module (Some (value_part t)) p x Γ ρ k =
-    let i = like_sort (value_part t) k.0 Γ ρ k.2 in let j = has_sort k.1 in clash (cc)
+    let i = like_sort (value_part t) k.0 Γ ρ k.2 in let j = has_sort k.1 in cc
 part_module (Some (module_part n)) p x Γ ρ k = go k.0 k.1 k.2
   where
-    go : (d : Declaration) → Has Γ p a_module x d → LikeOne (module_part n) d Γ ρ → LookStands (Some n) (dot p x) Γ ρ
+    go : (d : Declaration) → Has Γ p a_module x d → LikeOne (module_part n) d Γ ρ → ModuleLeads (Some n) (dot p x) Γ ρ
     go abstract h l = absurd l
     go (defined u) h l = absurd l
     go (value u) h l = absurd l
     go (nested s) h l = (s, has_at h, l, k.3)
 
-head_look : (o : Option Sig) (o' : Option Signature) (h : Head) (Γ : Env) (ρ : Meaning) → Γ h ≡ o' → HeadStands o o' h Γ ρ → LookStands o (at h) Γ ρ
+head_look : (o : Option Sig) (o' : Option Signature) (h : Head) (Γ : Env) (ρ : Meaning) → Γ h ≡ o' → HeadStands o o' h Γ ρ → ModuleLeads o (at h) Γ ρ
 head_look None None h Γ ρ e k = λ s a. none_at s a
   where
     none_at : (s : Signature) → At Γ (at h) s → ⊥
-    none_at s (head f) = clash (cc)
+    none_at s (head f) = cc
 head_look None (Some s) h Γ ρ e k = absurd k
 head_look (Some n) None h Γ ρ e k = absurd k
 head_look (Some n) (Some s) h Γ ρ e k = (s, head e, k.0, k.1)
 
 -- a path leads to a module in the scope exactly when it does in the environment, and what is found stands for it
-pub look : (G : Scope) (Γ : Env) (ρ : Meaning) → ScopeStands G Γ ρ → (p : ModulePath) → LookStands (module_at G p) p Γ ρ
+pub look : (G : Scope) (Γ : Env) (ρ : Meaning) → ScopeStands G Γ ρ → (p : ModulePath) → ModuleLeads (module_at G p) p Γ ρ
 look G Γ ρ k (at h) = head_look (G h) (Γ h) h Γ ρ refl (k h)
 look G Γ ρ k (dot p x) =
     part_module (part_of a_module x (module_at G p)) p x Γ ρ (look_part (module_at G p) p Γ ρ (look G Γ ρ k p) a_module x)
 
--- a type path
-abbrev pub TypeStands : Option Ty → ModulePath → Name → Env → Meaning → Type 0
-TypeStands None p x Γ ρ = (d : Declaration) → Has Γ p a_type x d → ⊥
-TypeStands (Some t) p x Γ ρ = StandsFor t (leaf (named p x)) Γ ρ
-
-pub part_type : (o : Option Part) (p : ModulePath) (x : Name) (Γ : Env) (ρ : Meaning) → PartStands o a_type p x Γ ρ → TypeStands (type_of_part o) p x Γ ρ
+pub part_type : (o : Option Part) (p : ModulePath) (x : Name) (Γ : Env) (ρ : Meaning) → PartStands o a_type p x Γ ρ → TypeLeads (type_of_part o) p x Γ ρ
 part_type None p x Γ ρ k = k
 part_type (Some (abstract_part n)) p x Γ ρ k = go k.0 k.1 k.2
   where
@@ -271,35 +264,30 @@ part_type (Some (defined_part t)) p x Γ ρ k = go k.0 k.1 k.2
     go (value u) h l = absurd l
     go (nested s) h l = absurd l
 part_type (Some (value_part t)) p x Γ ρ k =
-    let i = like_sort (value_part t) k.0 Γ ρ k.2 in let j = has_sort k.1 in clash (cc)
+    let i = like_sort (value_part t) k.0 Γ ρ k.2 in let j = has_sort k.1 in cc
 part_type (Some (module_part t)) p x Γ ρ k =
-    let i = like_sort (module_part t) k.0 Γ ρ k.2 in let j = has_sort k.1 in clash (cc)
+    let i = like_sort (module_part t) k.0 Γ ρ k.2 in let j = has_sort k.1 in cc
 
-pub look_type : (G : Scope) (Γ : Env) (ρ : Meaning) → ScopeStands G Γ ρ → (p : ModulePath) (x : Name) → TypeStands (type_at G p x) p x Γ ρ
+pub look_type : (G : Scope) (Γ : Env) (ρ : Meaning) → ScopeStands G Γ ρ → (p : ModulePath) (x : Name) → TypeLeads (type_at G p x) p x Γ ρ
 look_type G Γ ρ k p x =
     part_type (part_of a_type x (module_at G p)) p x Γ ρ (look_part (module_at G p) p Γ ρ (look G Γ ρ k p) a_type x)
 
--- a value path
-abbrev pub ValueStands : Option Ty → ModulePath → Name → Env → Meaning → Type 0
-ValueStands None p x Γ ρ = (t : Ty) → Has Γ p a_value x (value t) → ⊥
-ValueStands (Some t) p x Γ ρ = (u : Ty) × Has Γ p a_value x (value u) × StandsFor t u Γ ρ
-
-pub part_value : (o : Option Part) (p : ModulePath) (x : Name) (Γ : Env) (ρ : Meaning) → PartStands o a_value p x Γ ρ → ValueStands (value_of_part o) p x Γ ρ
+pub part_value : (o : Option Part) (p : ModulePath) (x : Name) (Γ : Env) (ρ : Meaning) → PartStands o a_value p x Γ ρ → ValueLeads (value_of_part o) p x Γ ρ
 part_value None p x Γ ρ k = λ t h. k (value t) h
 part_value (Some (abstract_part n)) p x Γ ρ k =
-    let i = like_sort (abstract_part n) k.0 Γ ρ k.2 in let j = has_sort k.1 in clash (cc)
+    let i = like_sort (abstract_part n) k.0 Γ ρ k.2 in let j = has_sort k.1 in cc
 part_value (Some (defined_part u)) p x Γ ρ k =
-    let i = like_sort (defined_part u) k.0 Γ ρ k.2 in let j = has_sort k.1 in clash (cc)
+    let i = like_sort (defined_part u) k.0 Γ ρ k.2 in let j = has_sort k.1 in cc
 part_value (Some (value_part t)) p x Γ ρ k = go k.0 k.1 k.2
   where
-    go : (d : Declaration) → Has Γ p a_value x d → LikeOne (value_part t) d Γ ρ → ValueStands (Some t) p x Γ ρ
+    go : (d : Declaration) → Has Γ p a_value x d → LikeOne (value_part t) d Γ ρ → ValueLeads (Some t) p x Γ ρ
     go abstract h l = absurd l
     go (defined u) h l = absurd l
     go (value u) h l = (u, h, l)
     go (nested s) h l = absurd l
 part_value (Some (module_part n)) p x Γ ρ k =
-    let i = like_sort (module_part n) k.0 Γ ρ k.2 in let j = has_sort k.1 in clash (cc)
+    let i = like_sort (module_part n) k.0 Γ ρ k.2 in let j = has_sort k.1 in cc
 
-pub look_value : (G : Scope) (Γ : Env) (ρ : Meaning) → ScopeStands G Γ ρ → (p : ModulePath) (x : Name) → ValueStands (value_at G p x) p x Γ ρ
+pub look_value : (G : Scope) (Γ : Env) (ρ : Meaning) → ScopeStands G Γ ρ → (p : ModulePath) (x : Name) → ValueLeads (value_at G p x) p x Γ ρ
 look_value G Γ ρ k p x =
     part_value (part_of a_value x (module_at G p)) p x Γ ρ (look_part (module_at G p) p Γ ρ (look G Γ ρ k p) a_value x)

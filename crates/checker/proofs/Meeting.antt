@@ -1,5 +1,6 @@
 -- Where numbered signatures meet, the signatures for which they stand match.
 use Rattle.std.proofs.Common.{◌≡◌, ℕ, suc, ◌+◌, ◌<◌, ◌≤◌, Bool, true, false, cond, eqb, ◌⊎◌, Some, Option, sym, refl, ap, ◌∙◌, subst, subst₂, inl, inr, arith}
+use Rattle.std.proofs.lemmas.Bool.{eqb-true}
 use Rattle.types.specs.Types.{Name, ModulePath, at, dot, named, Ty, leaf}
 use Rattle.rules.specs.Signatures.{Sort, a_type, a_value, a_module, Signature, structure, functor, Components, empty, more, Declaration, abstract, defined, value, nested}
 use Rattle.rules.specs.Substitution.{Substitution, under, innermost, out, lift, on_type, on_signature, on_components, on_declaration}
@@ -15,12 +16,12 @@ use Rattle.checker.specs.Meanings.{Meaning, bind, meant}
 use Rattle.checker.specs.Scope.{type_of_part}
 use Rattle.checker.specs.Failing.{Meets, structures_meet, functors_meet, MeetsAll, none_wanted, one_more, MeetsOne, any_type, same_type, same_value, sub_module}
 use Rattle.checker.specs.Standing.{NoPaths, StandsFor, calls, calls_all, calls_one, entered, Like, LikeAll, LikeOne}
-use Rattle.checker.proofs.Same.{eqb_equal}
 use Rattle.checker.proofs.Carrying.{normal_outside, like_along}
-use Rattle.checker.proofs.Looking.{calls_on, LookStands, PartStands, look_part, part_module, TypeStands, part_type, part_value}
+use Rattle.checker.proofs.Looking.{calls_on, PartStands, look_part, part_module, part_type, part_value}
 use Rattle.checker.proofs.Entering.{calls_called, called_agree, like_once}
 use Rattle.checker.proofs.Copied.{Means, stands_means}
 use Rattle.checker.proofs.Ground.{Plain, PlainIn, PlainInAll, PlainInOne, plain_in, plain_one_agree, plain_calls, Apart, Inside, inside_found, Tidy, meant_tidy, after_meaning, meant_comp, Recovers, recovers_enter, entered_plain, means_weaken, means_lift, means_out}
+use Rattle.checker.specs.Statements.{ModuleLeads, TypeLeads}
 
 -- an environment and its naming
 pub record Ground (Γ : Env) (ρ : Meaning) : Type 0 where
@@ -38,7 +39,7 @@ pub record Reading (Γ : Env) (ρ : Meaning) (τ : Meaning) : Type 0 where
 
 -- a signature that stands at a path
 pub record There (Γ : Env) (ρ : Meaning) (g : Sig) (σ : Meaning) (a : ℕ) (p : ModulePath) : Type 0 where
-  pub stands : LookStands (Some g) p Γ (after_meaning ρ σ)
+  pub stands : ModuleLeads (Some g) p Γ (after_meaning ρ σ)
   pub placed : Placed a g
   pub plain_names : PlainIn a g ρ
   pub plain_means : PlainIn a g σ
@@ -125,7 +126,7 @@ mutual
   meets_one_apart (any_type {σ = σ} {τ = τ} {n = k} t q) b n p h = go (eqb n k) refl
     where
       go : (c : Bool) → eqb n k ≡ c → cond (eqb n k) (meant σ t) (τ n) ≡ τ n
-      go true e = let z = eqb_equal n k e in absurd (h (omega arith) (omega arith))
+      go true e = let z = eqb-true n k e in absurd (h (omega arith) (omega arith))
       go false e = ap (λ c. cond c (meant σ t) (τ n)) e
   meets_one_apart (same_type t q e) b n p h = refl
   meets_one_apart (same_value e) b n p h = refl
@@ -226,7 +227,7 @@ pub partner_type :
     NoPaths (meant σ t) × Normal Γ (leaf (named p x)) (meant ρ (meant σ t))
 partner_type Γ ρ σ p x d t k h q =
     let s : StandsFor t (leaf (named p x)) Γ (after_meaning ρ σ) =
-    subst (λ o. TypeStands o p x Γ (after_meaning ρ σ)) q (part_type (Some d) p x Γ (after_meaning ρ σ) k) in
+    subst (λ o. TypeLeads o p x Γ (after_meaning ρ σ)) q (part_type (Some d) p x Γ (after_meaning ρ σ) k) in
     (meant_tidy t s.0 σ h, subst (Normal Γ (leaf (named p x))) (meant_comp ρ σ t) s.1)
 
 -- two functors, where their parameters meet the other way round and then their results

@@ -1,21 +1,19 @@
 -- The strengthened signature of a path stands for what the rules say of the path.
-use Rattle.std.proofs.Common.{◌≡◌, ℕ, suc, ◌+◌, ◌⊎◌, Some, None, sym, refl, ap, ◌∙◌, subst, ap₂, subst₂, inl, inr, arith}
-use mathlib.Core.Path.{fun_ext}
+use Rattle.std.proofs.Common.{◌≡◌, ℕ, suc, ◌+◌, ◌⊎◌, Some, sym, refl, ap, ◌∙◌, subst, ap₂, subst₂, inl, inr, arith}
+use Rattle.std.proofs.Math.Path.{fun_ext}
 use Rattle.types.specs.Types.{Name, ModulePath, at, dot, named, leaf}
-use Rattle.rules.specs.Signatures.{a_type, a_module, Signature, structure, functor, Components, empty, more, Declaration, abstract, defined, value, nested, sort_of, find, on_some}
-use Rattle.rules.specs.Substitution.{Substitution, under, innermost, on_path, out, lift, reading, on_type, on_signature, on_components, on_declaration}
+use Rattle.rules.specs.Signatures.{a_type, a_module, Signature, structure, functor, Components, empty, more, Declaration, abstract, defined, value, nested, on_some}
+use Rattle.rules.specs.Substitution.{Substitution, innermost, on_path, out, lift, reading, on_type, on_signature, on_components, on_declaration}
 use Rattle.rules.specs.Lookup.{Env, extend, At, head, inside, Has, Normal, unfolds}
 use Rattle.rules.specs.Strengthening.{strengthen, strengthen_all, strengthen_one}
-use Rattle.rules.proofs.Algebra.{after, signature_id, type_id, signature_comp, signature_lift_out, signature_reading_on, type_lift_out, type_reading_out, sort_on, declaration_reading_lift}
-use Rattle.rules.proofs.Finding.{clash, find_last, find_on_some, find_on_none, Begins, all, begins_before}
+use Rattle.rules.proofs.Algebra.{signature_id, type_id, signature_lift_out, signature_reading_on, type_lift_out, type_reading_out}
+use Rattle.rules.proofs.Finding.{find_on_some}
 use Rattle.rules.proofs.Inner.{Gives, Proper, ProperAll, ProperOne}
-use Rattle.rules.proofs.Along.{typed_along, was_abstract}
-use Rattle.rules.proofs.Exact.{exact_has, longer}
-use Rattle.rules.proofs.Transitive.{Knows, knows_laws, knows_gives}
-use Rattle.rules.proofs.Knowing.{Along, out_along, id_along, under_along, weaken_along}
-use Rattle.rules.proofs.Reflexive.{agree_self, Shown, ShownAll, ShownOne, has_at, shown_gives, at_gives}
+use Rattle.rules.proofs.Along.{was_abstract}
+use Rattle.rules.proofs.Knowing.{Along, id_along}
+use Rattle.rules.proofs.Reflexive.{at_gives}
 use Rattle.rules.proofs.Fresh.{Fresh, fresh_head, fresh_dot}
-use Rattle.rules.proofs.Strengthened.{strengthen_on, strengthen_one_on, strengthen_sort, strengthen_find, path_reading_out, Named, NamedAll, NamedOne, gives_named}
+use Rattle.rules.proofs.Strengthened.{strengthen_on, strengthen_find, path_reading_out, Named, NamedAll, NamedOne, gives_named, named_one_out, strengthened_along}
 use Rattle.checker.specs.Numbered.{Sig, sig, functor_sig, Parts, no_parts, more_parts, Part, abstract_part, defined_part, value_part, module_part, size_of_parts, Placed, PlacedAll, PlacedOne}
 use Rattle.checker.specs.Meanings.{Meaning, numbered_type, itself}
 use Rattle.checker.specs.Copying.{strengthened, strengthened_parts, strengthened_part}
@@ -24,62 +22,6 @@ use Rattle.checker.proofs.Carrying.{normal_abstract, normal_outside, normal_weak
 use Rattle.checker.proofs.Looking.{calls_on, called_calls}
 use Rattle.checker.proofs.Entering.{called_one_out, Blank, Settled}
 use Rattle.checker.proofs.Copied.{copy_placed, like_again}
-
--- abstract types have normal forms under one more binder too
-mutual
-  named_out : (s : Signature) (Γ : Env) (g : Signature) (p : ModulePath) → Named Γ p s → Named (extend Γ g) (on_path out p) s
-  named_out (structure c) Γ g p w = named_all_out c Γ g p w
-  named_out (functor s r) Γ g p w = tt
-
-  named_all_out : (c : Components) (Γ : Env) (g : Signature) (p : ModulePath) → NamedAll Γ p c → NamedAll (extend Γ g) (on_path out p) c
-  named_all_out empty Γ g p w = tt
-  named_all_out (more c x d) Γ g p w = (named_all_out c Γ g p w.0, named_one_out d Γ g p x w.1)
-
-  named_one_out : (d : Declaration) (Γ : Env) (g : Signature) (p : ModulePath) (x : Name) → NamedOne Γ p x d → NamedOne (extend Γ g) (on_path out p) x d
-  named_one_out abstract Γ g p x w = typed_along Knows knows_laws w out (extend Γ g) (out_along Γ g)
-  named_one_out (defined t) Γ g p x w = tt
-  named_one_out (value t) Γ g p x w = tt
-  named_one_out (nested s) Γ g p x w = named_out s Γ g (dot p x) w
-
--- a path of a strengthened signature shows the signature
-mutual
-  strengthened_shown :
-      (s : Signature) (Γ' Γ : Env) (θ : Substitution) (p q : ModulePath) → Proper Γ' s → Named Γ p s →
-      At Γ q (strengthen p (on_signature θ s)) → Shown Γ q θ s
-  strengthened_shown (structure c) Γ' Γ θ p q w v a = (
-    (strengthen_all (on_path out p) (on_components (lift θ) c), a),
-    strengthened_all_shown c Γ' Γ θ p q (strengthen_all (on_path out p) (on_components (lift θ) c)) w v a all,
-  )
-  strengthened_shown (functor s r) Γ' Γ θ p q w v a = a
-
-  strengthened_all_shown :
-      (c : Components) (Γ' Γ : Env) (θ : Substitution) (p q : ModulePath) (g : Components) → ProperAll Γ' c → NamedAll Γ p c →
-      At Γ q (structure g) → Begins (strengthen_all (on_path out p) (on_components (lift θ) c)) g → ShownAll Γ q (under q θ) c
-  strengthened_all_shown empty Γ' Γ θ p q g w v a b = tt
-  strengthened_all_shown (more c x d) Γ' Γ θ p q g w v a b =
-      let c' = on_components (lift θ) c in
-      let p' = on_path out p in
-      let d' = on_declaration (lift θ) d in
-      let d'' = strengthen_one p' x d' in
-      let sorts : sort_of d'' ≡ sort_of d = strengthen_sort p' x d' ∙ sort_on (lift θ) d in
-      let new : find (sort_of d'') x (strengthen_all p' c') ≡ None =
-      ap (λ s. find s x (strengthen_all p' c')) sorts
-      ∙ (strengthen_find p' (sort_of d) x c' ∙ ap (on_some (strengthen_one p' x)) (find_on_none (lift θ) (sort_of d) x c w.1)) in
-      let h = exact_has Γ q (more (strengthen_all p' c') x d'') (sort_of d'') x d'' (structure g, a, longer b) (find_last (strengthen_all p' c') x d'' new) in
-      let reads : on_declaration (reading q) d'' ≡ strengthen_one p x (on_declaration (under q θ) d) =
-      strengthen_one_on d' (reading q) p' x
-      ∙ ap₂ (λ o e. strengthen_one o x e) (path_reading_out q p) (declaration_reading_lift q θ d) in (
-        strengthened_all_shown c Γ' Γ θ p q g w.0 v.0 a (begins_before b),
-        strengthened_one_shown d (extend Γ' (structure c)) Γ (under q θ) p q x w.2 v.1 (subst₂ (λ s e. Has Γ q s x e) sorts reads h),
-      )
-
-  strengthened_one_shown :
-      (d : Declaration) (Γ' Γ : Env) (θ : Substitution) (p q : ModulePath) (x : Name) → ProperOne Γ' d → NamedOne Γ p x d →
-      Has Γ q (sort_of d) x (strengthen_one p x (on_declaration θ d)) → ShownOne Γ q θ x d
-  strengthened_one_shown abstract Γ' Γ θ p q x w v h = (v.0, unfolds (leaf (named p x)) h v.1)
-  strengthened_one_shown (defined t) Γ' Γ θ p q x w v h = h
-  strengthened_one_shown (value t) Γ' Γ θ p q x w v h = h
-  strengthened_one_shown (nested s) Γ' Γ θ p q x w v h = strengthened_shown s Γ' Γ θ (dot p x) (dot q x) w v (has_at h)
 
 -- a path from the innermost binder leads, in a strengthened structure, to what is strengthened by that path from p
 pub fresh_read : {r : ModulePath} → Fresh r → (p : ModulePath) → on_path out (on_path (reading p) r) ≡ on_path (reading (on_path out p)) r
@@ -132,7 +74,7 @@ strength_carry :
 strength_carry n s θ Γ' ρ Γ υ p k c z i m = go (calls_cases n innermost fresh_head i)
   where
     normal : (r : ModulePath) (x : Name) → υ i ≡ leaf (named r x) → (υ i ≡ numbered_type i) ⊎ Normal Γ (υ i) (υ i) → Normal Γ (υ i) (υ i)
-    normal r x e (inl f) = clash (cc)
+    normal r x e (inl f) = cc
     normal r x e (inr h) = h
 
     go : OwnOr (calls innermost n) i → Normal (extend Γ (strengthen p (on_signature θ s))) (on_type (lift θ) (entered n ρ i)) (on_type out (υ i))
@@ -187,21 +129,6 @@ mutual
   strengthened_one_placed (value_part t) q = tt
   strengthened_one_placed (module_part s) q = strengthened_placed s (suc q)
 
--- a structure along a substitution, and then strengthened
-strengthened_along :
-    (s : Signature) (Γ' Γ : Env) (θ : Substitution) (p : ModulePath) → Proper Γ' s → Along θ Γ' Γ → Named Γ p s →
-    Along (lift θ) (extend Γ' s) (extend Γ (strengthen p (on_signature θ s)))
-strengthened_along s Γ' Γ θ p w k v =
-    let g = strengthen p (on_signature θ s) in
-    let Γ+ = extend Γ g in
-    let θ+ = after out θ in
-    let k⁺ = weaken_along θ Γ' Γ g k in
-    let here : At Γ+ innermost (strengthen (on_path out p) (on_signature θ+ s)) =
-    subst (At Γ+ innermost) (strengthen_on (on_signature θ s) out p ∙ ap (strengthen (on_path out p)) (signature_comp out θ s)) (head refl) in
-    let shown = strengthened_shown s Γ' Γ+ θ+ (on_path out p) innermost w (named_out s Γ g p v) here in
-    under_along θ+ Γ' Γ+ innermost s k⁺
-    (knows_gives (shown_gives s Γ' Γ+ θ+ θ+ innermost w k⁺ k⁺ (agree_self Γ' θ+ Γ+ k⁺) shown))
-
 settled_out : (Γ : Env) (υ : Meaning) (g : Signature) → Settled Γ υ → Settled (extend Γ g) (λ j. on_type out (υ j))
 settled_out Γ υ g z n = go (z n)
   where
@@ -210,7 +137,7 @@ settled_out Γ υ g z n = go (z n)
     go (inr m) = inr (normal_weaken g m)
 
 own_normal : (Γ : Env) (υ : Meaning) (n : ℕ) (p : ModulePath) (x : Name) → υ n ≡ leaf (named p x) → (υ n ≡ numbered_type n) ⊎ Normal Γ (υ n) (υ n) → Normal Γ (leaf (named p x)) (υ n)
-own_normal Γ υ n p x e (inl f) = clash (cc)
+own_normal Γ υ n p x e (inl f) = cc
 own_normal Γ υ n p x e (inr m) = subst (λ t. Normal Γ t (υ n)) e m
 
 called_under : (e : Part) (x : Name) (p : ModulePath) (υ : Meaning) → CalledOne p x e υ → CalledOne (on_path out p) x e (λ j. on_type out (υ j))

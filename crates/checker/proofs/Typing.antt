@@ -1,16 +1,17 @@
 -- Written types and terms: what is answered stands for what the rules say, and a fault that is not size means that the rules say nothing.
-use Rattle.std.proofs.Common.{◌≡◌, ℕ, zero, suc, Bool, true, false, cond, ltb, List, [], ◌∷◌, map, Some, None, Option, sym, refl, ap, ◌∙◌, subst, ap₂}
-use Rattle.types.specs.Types.{Name, ModulePath, Leaf, named, numbered, Ty, leaf, label0, label1, label2, replace, replace_opaque}
+use Rattle.std.proofs.Common.{◌≡◌, ℕ, zero, suc, Bool, true, false, cond, List, [], ◌∷◌, map, Some, None, Option, sym, refl, ap, ◌∙◌, subst, ap₂}
+use Rattle.types.specs.Types.{Name, ModulePath, Leaf, named, numbered, Ty, leaf, label0, label1, label2, replace}
 use Rattle.cores.specs.Meaning.{Outcome, gives, refuses, Stable}
 use Rattle.cores.specs.declared.interface.Operation.{Operation}
 use Rattle.cores.specs.declared.interface.Operation.TheVariants.{Literal, Function, Operator}
+use Rattle.cores.specs.Rules.{map_same}
 use Rattle.rules.specs.Lookup.{Env, Normal, bare, part, parts}
 use Rattle.rules.specs.Soundness.{Leads}
 use Rattle.rules.specs.Syntax.{TypeText, path_text, label_text0, label_text1, label_text2, type_of, Term, variable, component, integer, operation, lambda, Terms, no_terms, more_terms}
 use Rattle.rules.specs.Rules.{pick, TermHas, of_variable, of_component, of_integer, of_operation, of_lambda, TermsHave, none_have, more_have}
-use Rattle.rules.proofs.Finding.{clash, normal_unique, normal_normal}
-use Rattle.rules.proofs.Leaves.{Normals, no_normals, more_normals, rule_along}
-use Rattle.rules.proofs.Terms.{term_unique}
+use Rattle.rules.proofs.Finding.{normal_unique, normal_normal}
+use Rattle.rules.proofs.Leaves.{Normals, no_normals, more_normals, rule_along, leaf_law, gives_is}
+use Rattle.rules.proofs.Terms.{term_unique, terms_unique}
 use Rattle.rules.proofs.Wording.{typed_leads}
 use Rattle.checker.specs.Meanings.{Meaning, meant}
 use Rattle.checker.specs.Scope.{Scope, type_at, value_at}
@@ -19,9 +20,9 @@ use Rattle.checker.specs.Faults.{Fault, too_large, Answer, ok, fault, and_then, 
 use Rattle.checker.specs.Texts.{check_type}
 use Rattle.checker.specs.Terms.{judged, check_term, check_terms}
 use Rattle.checker.specs.Standing.{NoPaths, StandsFor, ScopeStands, Reached}
-use Rattle.checker.specs.Statements.{NotSize, Good}
+use Rattle.checker.specs.Statements.{NotSize, Good, TypeLeads, ValueLeads}
 use Rattle.checker.proofs.Carrying.{part_of_lem, parts_of}
-use Rattle.checker.proofs.Looking.{TypeStands, look_type, ValueStands, look_value}
+use Rattle.checker.proofs.Looking.{look_type, look_value}
 
 -- a written type is answered rightly
 abbrev pub TypeRight : {C : Type 0} → Answer C Ty → Ty → Env → Meaning → Type 0
@@ -35,7 +36,7 @@ ask_type_right C place n t Γ ρ s = go (small_type n)
     go true = s
     go false = λ q l. q refl
 
-path_right : (C : Type 0) (place : ℕ) (o : Option Ty) (p : ModulePath) (x : Name) (Γ : Env) (ρ : Meaning) → TypeStands o p x Γ ρ → TypeRight {C = C} (leads_to place o) (leaf (named p x)) Γ ρ
+path_right : (C : Type 0) (place : ℕ) (o : Option Ty) (p : ModulePath) (x : Name) (Γ : Env) (ρ : Meaning) → TypeLeads o p x Γ ρ → TypeRight {C = C} (leads_to place o) (leaf (named p x)) Γ ρ
 path_right C place None p x Γ ρ k = λ q l. k l.0 l.1
 path_right C place (Some t) p x Γ ρ k = k
 
@@ -55,36 +56,6 @@ type_right C G Γ ρ k (label_text2 place l t u) = go (check_type G t) (type_rig
     go (ok n) s (ok m) r = ask_type_right C place (label2 l n m) (label2 l (type_of t) (type_of u)) Γ ρ ((s.0, r.0), parts s.1 r.1)
     go (ok n) s (fault e) f = λ q i. f q i.1
     go (fault e) f b r = λ q i. f q i.0
-
--- the law of cores for leaves
-opaque_is : (n : ℕ) (ρ : Leaf → Ty) (t : Ty) → replace_opaque n (replace ρ) t ≡ replace ρ t
-opaque_is n ρ (leaf x) = refl
-opaque_is n ρ (label0 l) = go (ltb l n)
-  where
-    go : (b : Bool) → cond b (label0 l) (label0 l) ≡ label0 l
-    go true = refl
-    go false = refl
-opaque_is n ρ (label1 l t) = go (ltb l n) (opaque_is n ρ t)
-  where
-    go : (b : Bool) → replace_opaque n (replace ρ) t ≡ replace ρ t → cond b (label1 l (replace_opaque n (replace ρ) t)) (label1 l (replace ρ t)) ≡ label1 l (replace ρ t)
-    go true ih = ap (label1 l) ih
-    go false ih = refl
-opaque_is n ρ (label2 l t u) = go (ltb l n) (opaque_is n ρ t) (opaque_is n ρ u)
-  where
-    go :
-        (b : Bool) → replace_opaque n (replace ρ) t ≡ replace ρ t → replace_opaque n (replace ρ) u ≡ replace ρ u →
-        cond b (label2 l (replace_opaque n (replace ρ) t) (replace_opaque n (replace ρ) u)) (label2 l (replace ρ t) (replace ρ u)) ≡ label2 l (replace ρ t) (replace ρ u)
-    go true i j = ap₂ (label2 l) i j
-    go false i j = refl
-
-map_is : {A B : Type 0} (f g : A → B) → ((a : A) → f a ≡ g a) → (l : List A) → map f l ≡ map g l
-map_is f g e [] = refl
-map_is f g e (a ∷ l) = ap₂ (λ x y. x ∷ y) (e a) (map_is f g e l)
-
-leaf_law : {C : Type 0} (n : ℕ) (rule : Operation → List Ty → Outcome C) → Stable n rule → (ρ : Leaf → Ty) (o : Operation) (ts : List Ty) (t : Ty) → rule o ts ≡ gives t → rule o (map (replace ρ) ts) ≡ gives (replace ρ t)
-leaf_law n rule law ρ o ts t e =
-    ap (rule o) (sym (map_is (replace_opaque n (replace ρ)) (replace ρ) (opaque_is n ρ) ts))
-    ∙ (law (replace ρ) o ts t e ∙ ap gives (opaque_is n ρ t))
 
 -- calling is a replacement of leaves
 naming : Meaning → Leaf → Ty
@@ -122,7 +93,7 @@ forget_all (t ∷ ts) i = ap₂ (λ a b. a ∷ b) (forget_none t i.0) (forget_al
 
 forgotten : (t : Ty) → replace forgetting t ≡ t → NoPaths t
 unfolding forgetting
-forgotten (leaf (named p x)) e = clash (cc)
+forgotten (leaf (named p x)) e = cc
 forgotten (leaf (numbered n)) e = tt
 forgotten (label0 l) e = tt
 forgotten (label1 l t) e = forgotten t (cc)
@@ -160,11 +131,8 @@ back_all : (G : Scope) (Γ : Env) (ρ : Meaning) → Reached G Γ ρ → (ts : L
 back_all G Γ ρ r [] g = refl
 back_all G Γ ρ r (t ∷ ts) g = ap₂ (λ a b. a ∷ b) (back_meant G Γ ρ r t g.0 g.1) (back_all G Γ ρ r ts g.2)
 
-gives_is : {C : Type 0} (t u : Ty) → ◌≡◌ {A = Outcome C} (gives t) (gives u) → t ≡ u
-gives_is t u e = cc
-
 never : {C : Type 0} (o : Outcome C) (c : C) (t : Ty) → o ≡ refuses c → o ≡ gives t → ⊥
-never o c t e f = clash (cc)
+never o c t e f = cc
 
 -- the types of variables
 abbrev pub Variables : List Ty → List Ty → Env → Meaning → Type 0
@@ -186,17 +154,12 @@ picked (t ∷ ts) [] Γ ρ v k = absurd v
 picked (t ∷ ts) (u ∷ us) Γ ρ v zero = v.0
 picked (t ∷ ts) (u ∷ us) Γ ρ v (suc k) = picked ts us Γ ρ v.1 k
 
--- arguments have one list of types
-terms_one_of : {C : Type 0} (rule : Operation → List Ty → Outcome C) {Γ : Env} {Δ : List Ty} {ts : Terms} {us us' : List Ty} → TermsHave rule Γ Δ ts us → TermsHave rule Γ Δ ts us' → us ≡ us'
-terms_one_of rule none_have none_have = refl
-terms_one_of rule (more_have h hs) (more_have h' hs') = ap₂ (λ a b. a ∷ b) (term_unique rule h h') (terms_one_of rule hs hs')
-
 module _ {C : Type 0} (w : ℕ) (rule : Operation → List Ty → Outcome C) (law : Stable w rule) (G : Scope) (Γ : Env) (ρ : Meaning) (k : ScopeStands G Γ ρ) (r : Reached G Γ ρ) where
   -- what the rule gives for numbered types it gives for their names, and what it gives for these it gives for the numbered ones
   pub rule_named : (o : Operation) (ts : List Ty) (t : Ty) → Good Γ ρ ts → rule o ts ≡ gives t → (rule o (map (meant ρ) ts) ≡ gives (meant ρ t)) × Good Γ ρ (t ∷ [])
   rule_named o ts t g e =
       let named : rule o (map (meant ρ) ts) ≡ gives (meant ρ t) =
-      ap (rule o) (sym (map_is (replace (naming ρ)) (meant ρ) (meant_is ρ) ts)) ∙ (leaf_law w rule law (naming ρ) o ts t e ∙ ap gives (meant_is ρ t)) in
+      ap (rule o) (sym (map_same (replace (naming ρ)) (meant ρ) (meant_is ρ) ts)) ∙ (leaf_law w rule law (naming ρ) o ts t e ∙ ap gives (meant_is ρ t)) in
       let forget : replace forgetting t ≡ t =
       gives_is {C = C} (replace forgetting t) t
       (sym (leaf_law w rule law forgetting o ts t e) ∙ (ap (rule o) (forget_all ts (good_none Γ ρ ts g)) ∙ e)) in
@@ -238,12 +201,12 @@ module _ {C : Type 0} (w : ℕ) (rule : Operation → List Ty → Outcome C) (la
   variable_right place j None None Δ e p = λ q u a. nothing u a
     where
       nothing : (u : Ty) → TermHas rule Γ Δ (variable place j) u → ⊥
-      nothing u (of_variable t f m) = clash (cc)
+      nothing u (of_variable t f m) = cc
   variable_right place j None (Some u) Δ e p = absurd p
   variable_right place j (Some t) None Δ e p = absurd p
   variable_right place j (Some t) (Some u) Δ e p = (of_variable u e p.1, (p.0, normal_normal p.1, tt))
 
-  component_right : (place : ℕ) (o : Option Ty) (p : ModulePath) (x : Name) (Δ : List Ty) → ValueStands o p x Γ ρ → TermRight (leads_to place o) Δ (component place p x)
+  component_right : (place : ℕ) (o : Option Ty) (p : ModulePath) (x : Name) (Δ : List Ty) → ValueLeads o p x Γ ρ → TermRight (leads_to place o) Δ (component place p x)
   component_right place None p x Δ v = λ q u a. nothing u a
     where
       nothing : (u : Ty) → TermHas rule Γ Δ (component place p x) u → ⊥
@@ -255,7 +218,7 @@ module _ {C : Type 0} (w : ℕ) (rule : Operation → List Ty → Outcome C) (la
 
   operation_of :
       (place j : ℕ) (ts : Terms) (Δ ns : List Ty) → TermsHave rule Γ Δ ts ns → (u : Ty) → TermHas rule Γ Δ (operation place j ts) u → rule (Operator j) ns ≡ gives u
-  operation_of place j ts Δ ns h u (of_operation ms h' e) = ap (rule (Operator j)) (terms_one_of rule h h') ∙ e
+  operation_of place j ts Δ ns h u (of_operation ms h' e) = ap (rule (Operator j)) (terms_unique rule h h') ∙ e
 
   operation_right : (place j : ℕ) (ts : Terms) (Δ : List Ty) (a : Answer C (List Ty)) → TermsRight a Δ ts → TermRight (and_then a (λ ns. judged place (rule (Operator j) ns))) Δ (operation place j ts)
   operation_right place j ts Δ (ok ns) h =

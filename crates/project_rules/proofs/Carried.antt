@@ -1,6 +1,7 @@
 -- The same units at other places: what is told of them, and their load order, are the same.
 use Rattle.std.proofs.Common.{◌≡◌, ℕ, ◌<◌, Bool, true, false, eqb, List, [], ◌∷◌, ◌++◌, map, Some, None, Option, sym, refl, ap, ◌∙◌, subst, ap₂, subst₂, inl, inr, ⊎_elim, arith}
 use Rattle.std.proofs.lemmas.Bool.{cases_Bool, both_ways, or_cases, or_left, or_right, eq-eqb, eqb-true}
+use Rattle.std.proofs.lemmas.List.{map-append}
 use Rattle.order.specs.Units.{Units, names}
 use Rattle.order.specs.Compare.{NameLess, NameFirst, UnitLess, Distinct, by_name}
 use Rattle.order.specs.Least.{best}
@@ -14,7 +15,6 @@ use Rattle.order.proofs.Runs.{has_middle, has_front, order_complete, order_acycl
 use Rattle.order.proofs.Existence.{load_order_is}
 use Rattle.order.proofs.Leastness.{load_order_least}
 use Rattle.rules.specs.Signatures.{on_some}
-use Rattle.rules.proofs.Finding.{clash}
 use Rattle.project_rules.proofs.Orders.{name_one_way, smaller_one_way}
 
 -- the units of u stand in v at the places that f tells, and g leads back
@@ -43,13 +43,13 @@ carries_back u v f g c =
 
 -- places in a list that is carried over
 pub has_map : (f : ℕ → ℕ) (l : List ℕ) (i : ℕ) → has l i ≡ true → has (map f l) (f i) ≡ true
-has_map f [] i h = clash (cc)
+has_map f [] i h = cc
 has_map f (j ∷ l) i h =
     ⊎_elim (λ e. or_left (eqb (f j) (f i)) (has (map f l) (f i)) (eq-eqb (f j) (f i) (ap f (eqb-true j i e))))
     (λ m. or_right (eqb (f j) (f i)) (has (map f l) (f i)) (has_map f l i m)) (or_cases (eqb j i) (has l i) h)
 
 pub map_has : (f : ℕ → ℕ) (l : List ℕ) (j : ℕ) → has (map f l) j ≡ true → (i : ℕ) × (has l i ≡ true) × (f i ≡ j)
-map_has f [] j h = clash (cc)
+map_has f [] j h = cc
 map_has f (i ∷ l) j h =
     ⊎_elim (λ e. (i, or_left (eqb i i) (has l i) (eq-eqb i i refl), eqb-true (f i) j e))
     (λ m. let r = map_has f l j m in (r.0, or_right (eqb i r.0) (has l r.0) r.1, r.2)) (or_cases (eqb (f i) j) (has (map f l) j) h)
@@ -64,8 +64,8 @@ pub record MapSplit (f : ℕ → ℕ) (l front : List ℕ) (j : ℕ) (rest : Lis
   pub ends : map f end ≡ rest
 
 pub map_split : (f : ℕ → ℕ) (l front : List ℕ) (j : ℕ) (rest : List ℕ) → map f l ≡ front ++ j ∷ rest → MapSplit f l front j rest
-map_split f [] [] j rest e = clash (cc)
-map_split f [] (x ∷ front) j rest e = clash (cc)
+map_split f [] [] j rest e = cc
+map_split f [] (x ∷ front) j rest e = cc
 map_split f (i ∷ l) [] j rest e = record { start = []; place = i; end = l; whole = refl; starts = refl; placed = cc; ends = cc }
 map_split f (i ∷ l) (x ∷ front) j rest e = go (map_split f l front j rest (cc)) (cc)
   where
@@ -80,10 +80,6 @@ map_split f (i ∷ l) (x ∷ front) j rest e = go (map_split f l front j rest (c
           placed = r.placed;
           ends = r.ends;
         }
-
-pub map_append : (f : ℕ → ℕ) (l m : List ℕ) → map f (l ++ m) ≡ map f l ++ map f m
-map_append f [] m = refl
-map_append f (i ∷ l) m = ap (λ z. f i ∷ z) (map_append f l m)
 
 pub map_back : (f g : ℕ → ℕ) (l : List ℕ) → ((i : ℕ) → has l i ≡ true → f (g i) ≡ i) → map f (map g l) ≡ l
 map_back f g [] h = refl
@@ -147,8 +143,8 @@ module _ (u v : Units) (f g : ℕ → ℕ) (c : Carries u v f g) where
         ps_rest = map f s.ps_rest;
         q = f s.q;
         qs_rest = map f s.qs_rest;
-        ps_is = ap (map f) s.ps_is ∙ map_append f s.front (s.p ∷ s.ps_rest);
-        qs_is = ap (map f) s.qs_is ∙ map_append f s.front (s.q ∷ s.qs_rest);
+        ps_is = ap (map f) s.ps_is ∙ map-append f s.front (s.p ∷ s.ps_rest);
+        qs_is = ap (map f) s.qs_is ∙ map-append f s.front (s.q ∷ s.qs_rest);
         less =
             less_carried s.p s.q
             (o.units s.p (subst (λ z. has z s.p ≡ true) (sym s.ps_is) (has_middle s.front s.p s.ps_rest)))
@@ -187,7 +183,7 @@ best_carried u v f g c d d' m n same =
 
     name_less : (w : Units) → Distinct w → (i j : ℕ) → i < w.count → j < w.count → NameFirst w i j → NameLess (w.name i) (w.name j)
     name_less w dw i j l k h =
-        ⊎_elim (λ r. r) (λ r. let e : i ≡ j = dw i j l k r.0 in let x : i < j = r.1 in let z : ⊥ = omega arith in absurd z) h
+        ⊎_elim (λ r. r) (λ r. let e : i ≡ j = dw i j l k r.0 in let x : i < j = r.1 in absurd (omega arith)) h
 
     go : (o : Option ℕ) → IsBest m (by_name u) u.count o → (p : Option ℕ) → IsBest n (by_name v) v.count p → p ≡ on_some f o
     go None a None b = refl

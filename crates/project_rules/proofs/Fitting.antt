@@ -12,7 +12,6 @@ use Rattle.rules.specs.Signatures.{on_some}
 use Rattle.rules.specs.Syntax.{SignatureText, signature_of}
 use Rattle.rules.specs.Naming.{signature_names}
 use Rattle.rules.specs.Projects.{Units, no_units, more_units, DerivedFor}
-use Rattle.rules.proofs.Finding.{clash}
 use Rattle.checker.specs.Faults.{unknown_unit, Answer, ok, fault, and_then}
 use Rattle.checker.specs.Texts.{check_sig}
 use Rattle.checker.specs.Comparing.{match_sigs}
@@ -24,8 +23,7 @@ use Rattle.checker.proofs.Fitted.{fit_law}
 use Rattle.project_rules.specs.Project.{ProjectUnit, first_where, unit_at, name_at, seen, order_of, behind, units_at}
 use Rattle.project_rules.specs.Check.{right, check_project}
 use Rattle.project_rules.specs.Fit.{FitAnswer, FitNotSize, SaysYes, place_of, up_to, before, one_named, not_before_it, of_fit, fit_known, unless_head, fit_at, unless_absent}
-use Rattle.project_rules.specs.Statements.{DistinctNames, OnceProject, Present, BehindWords, FitAnywhere, PresentAt, Stands, FitMeans, FitAnswersMean}
-use Rattle.project_rules.specs.Statements.{FitLaw as ProjectFitLaw}
+use Rattle.project_rules.specs.Statements.{DistinctNames, OnceProject, Present, BehindWords, FitAnywhere, PresentAt, Stands, FitMeans, FitAnswersMean, FitLaw as ProjectFitLaw}
 use Rattle.project_rules.proofs.Lists.{some_told, some_from, none_told, IsFirst, first_is, has_among, among_has}
 use Rattle.project_rules.proofs.Answering.{right_means}
 use Rattle.project_rules.proofs.Turns.{behind_append}
@@ -60,7 +58,7 @@ place_of_lem us d i l = go (place_of (name_at us i) us) (place_is (name_at us i)
 
 -- what stands before a place
 pub up_to_splits : (i : ℕ) (l : List ℕ) → has l i ≡ true → (rest : List ℕ) × (l ≡ up_to i l ++ i ∷ rest)
-up_to_splits i [] h = clash (cc)
+up_to_splits i [] h = cc
 up_to_splits i (j ∷ l) h = go (eqb j i) refl h (up_to_splits i l)
   where
     go : (b : Bool) → eqb j i ≡ b → (b || has l i) ≡ true → (has l i ≡ true → (rest : List ℕ) × (l ≡ up_to i l ++ i ∷ rest)) →

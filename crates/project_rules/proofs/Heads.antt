@@ -1,6 +1,8 @@
 -- The heads of a text that name no known unit: as the checker finds them in a scope, and as the names of units say.
 use Rattle.std.proofs.Common.{◌≡◌, ℕ, ◌+◌, ◌≤◌, Bool, true, false, cond, not, ◌||◌, List, [], ◌∷◌, ◌++◌, Some, None, Option, sym, refl, ap, ◌∙◌, ap₂, arith}
 use Rattle.std.specs.Str.{bytes_eq}
+use Rattle.std.specs.Option.{is_some}
+use Rattle.std.proofs.Math.Bool.{or_assoc, or_comm, or-false}
 use Rattle.types.specs.Types.{Name, unit, binder, ModulePath, at, dot, Ty}
 use Rattle.cores.specs.Meaning.{Outcome}
 use Rattle.cores.specs.declared.interface.Operation.{Operation}
@@ -8,7 +10,6 @@ use Rattle.rules.specs.Signatures.{first_of, on_some}
 use Rattle.rules.specs.Syntax.{TypeText, path_text, label_text0, label_text1, label_text2, SignatureText, sig_text, functor_text, SpecTexts, no_specs, more_specs, SpecText, abstract_spec, defined_spec, value_spec, module_spec, CompilationUnit}
 use Rattle.rules.specs.Naming.{path_names, type_names, signature_names, specs_names, spec_names}
 use Rattle.rules.specs.Projects.{Units, no_units, more_units}
-use Rattle.rules.proofs.Finding.{clash}
 use Rattle.checker.specs.Numbered.{Sig, size_of}
 use Rattle.checker.specs.Scope.{Scope, nothing, with_unit_of}
 use Rattle.checker.specs.Faults.{Answer, ok, fault}
@@ -17,11 +18,6 @@ use Rattle.checker.specs.Units.{Known, CheckAnswer, accepted, refused, after_uni
 use Rattle.project_rules.specs.Project.{ProjectUnit, first_where, unit_at, name_at, behind, units_at}
 use Rattle.project_rules.specs.Fit.{one_named}
 use Rattle.project_rules.proofs.Lists.{first_append}
-
--- something is known
-abbrev pub is_there : {A : Type 0} → Option A → Bool
-is_there (Some a) = true
-is_there None = false
 
 -- a head's place
 abbrev pub spot : Name × ℕ → ℕ
@@ -32,7 +28,7 @@ first_of_on f (Some a) b = refl
 first_of_on f None b = refl
 
 -- the first head of a text that names no unit of a scope, by a test of which names it has
-module _ (Γ : Scope) (known : Name → Bool) (same : (x : Name) → is_there (Γ (unit x)) ≡ known x) where
+module _ (Γ : Scope) (known : Name → Bool) (same : (x : Name) → is_some (Γ (unit x)) ≡ known x) where
   abbrev unknown_head : Name × ℕ → Bool
   unknown_head h = not (known h.0)
 
@@ -42,10 +38,10 @@ module _ (Γ : Scope) (known : Name → Bool) (same : (x : Name) → is_there (�
   here : (x : Name) (place : ℕ) → unknown_here place (Γ (unit x)) ≡ First ((x, place) ∷ [])
   here x place = go (Γ (unit x)) (known x) (same x)
     where
-      go : (o : Option Sig) (b : Bool) → is_there o ≡ b → unknown_here place o ≡ on_some spot (cond (not b) (Some (x, place)) None)
+      go : (o : Option Sig) (b : Bool) → is_some o ≡ b → unknown_here place o ≡ on_some spot (cond (not b) (Some (x, place)) None)
       go (Some s) true e = refl
-      go (Some s) false e = clash (cc)
-      go None true e = clash (cc)
+      go (Some s) false e = cc
+      go None true e = cc
       go None false e = refl
 
   both : (l m : List (Name × ℕ)) (a b : Option ℕ) → a ≡ First l → b ≡ First m → first_of a b ≡ First (l ++ m)
@@ -89,10 +85,7 @@ named_in_behind us b (i ∷ is) x =
     named_in_behind us (more_units b (unit_at us i)) is x ∙ moves (bytes_eq (name_at us i) x) (one_named us is x) (named_in b x)
   where
     moves : (a b c : Bool) → (b || (a || c)) ≡ ((a || b) || c)
-    moves true true c = refl
-    moves true false c = refl
-    moves false true c = refl
-    moves false false c = refl
+    moves a b c = sym (or_assoc b a c) ∙ ap (λ z. z || c) (or_comm b a)
 
 -- what is known behind one more unit
 abbrev after : Name → Sig → Known → Known
@@ -116,11 +109,11 @@ module _ {C : Type 0} (rule : Operation → List Ty → Outcome C) where
       inner : (k₀ : Known) → check_units rule b ≡ accepted k₀ → (a : Answer C Sig) → check_module rule k₀.scope k₀.next u.body ≡ a →
           after_unit u.name k₀ a ≡ accepted k → UnitAccepted b u k
       inner k₀ e (ok g) f h = record { earlier = k₀; own = g; others = e; module_is = f; known = cc }
-      inner k₀ e (fault c) f h = clash (cc)
+      inner k₀ e (fault c) f h = cc
 
       outer : (a : CheckAnswer C) → check_units rule b ≡ a → check_next rule u a ≡ accepted k → UnitAccepted b u k
       outer (accepted k₀) e h = inner k₀ e (check_module rule k₀.scope k₀.next u.body) refl h
-      outer (refused x c) e h = clash (cc)
+      outer (refused x c) e h = cc
 
   -- units in front of accepted ones are accepted, with no more words
   pub front_accepted : (us : List ProjectUnit) (b : Units) (is : List ℕ) (k : Known) → check_units rule (behind us b is) ≡ accepted k →
@@ -132,22 +125,18 @@ module _ {C : Type 0} (rule : Operation → List Ty → Outcome C) where
       (a.earlier, a.others, omega (arith, r.2, ap (λ z. z.next) a.known))
 
   -- a scope knows the names of the units accepted
-  scope_names : (b : Units) (k : Known) → check_units rule b ≡ accepted k → (x : Name) → is_there (k.scope (unit x)) ≡ named_in b x
+  scope_names : (b : Units) (k : Known) → check_units rule b ≡ accepted k → (x : Name) → is_some (k.scope (unit x)) ≡ named_in b x
   scope_names no_units k e x =
       let z : k ≡ start = cc in
-      ap (λ a. is_there (a.scope (unit x))) z
+      ap (λ a. is_some (a.scope (unit x))) z
   scope_names (more_units b u) k e x =
       let a = unit_accepted b u k e in
-      ap (λ z. is_there (z.scope (unit x))) a.known ∙ go (a.earlier.scope (unit x)) a.own (bytes_eq u.name x) (scope_names b a.earlier a.others x)
+      ap (λ z. is_some (z.scope (unit x))) a.known ∙ go (a.earlier.scope (unit x)) a.own (bytes_eq u.name x) (scope_names b a.earlier a.others x)
     where
-      go : (o : Option Sig) (s : Sig) {n : Bool} (t : Bool) → is_there o ≡ n → is_there (cond t (Some s) o) ≡ (t || n)
+      go : (o : Option Sig) (s : Sig) {n : Bool} (t : Bool) → is_some o ≡ n → is_some (cond t (Some s) o) ≡ (t || n)
       go o s true h = refl
       go o s false h = h
 
   pub scope_before : (us : List ProjectUnit) (is : List ℕ) (k : Known) → check_units rule (units_at us is) ≡ accepted k →
-      (x : Name) → is_there (k.scope (unit x)) ≡ one_named us is x
-  scope_before us is k e x = scope_names (units_at us is) k e x ∙ named_in_behind us no_units is x ∙ or_false (one_named us is x)
-    where
-      or_false : (b : Bool) → (b || false) ≡ b
-      or_false true = refl
-      or_false false = refl
+      (x : Name) → is_some (k.scope (unit x)) ≡ one_named us is x
+  scope_before us is k e x = scope_names (units_at us is) k e x ∙ named_in_behind us no_units is x ∙ or-false (one_named us is x)

@@ -1,4 +1,3 @@
-pub mod Samples
 pub mod Lists
 pub mod Viewing
 pub mod Orders

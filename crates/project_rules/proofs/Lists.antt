@@ -3,13 +3,12 @@ use Rattle.std.proofs.Common.{◌≡◌, ℕ, zero, suc, ◌<◌, Bool, true, fa
 use Rattle.std.proofs.lemmas.Bool.{or_cases, or_left, or_right, or_parts, eqb-true, eq-eqb}
 use Rattle.order.specs.Picking.{has}
 use Rattle.rules.specs.Signatures.{first_of}
-use Rattle.rules.proofs.Finding.{clash}
 use Rattle.project_rules.specs.Project.{some, first_where}
 use Rattle.project_rules.specs.Statements.{Among}
 
 -- some element passes
 pub some_told : {A : Type 0} (test : A → Bool) (l : List A) → some test l ≡ true → (a : A) × Among a l × (test a ≡ true)
-some_told test [] e = clash (cc)
+some_told test [] e = cc
 some_told test (b ∷ l) e =
     ⊎_elim (λ h. (b, inl refl, h)) (λ h. let r = some_told test l h in (r.0, inr r.1, r.2)) (or_cases (test b) (some test l) e)
 
@@ -61,7 +60,7 @@ place_among (b ∷ l) d a m =
     ⊎_elim (λ h. (0, omega arith, h)) (λ h. let r = place_among l d a h in (suc r.0, omega (arith, r.1), r.2)) m
 
 pub has_among : (l : List ℕ) (i : ℕ) → has l i ≡ true → Among i l
-has_among [] i e = clash (cc)
+has_among [] i e = cc
 has_among (j ∷ l) i e = ⊎_elim (λ h. inl (eqb-true j i h)) (λ h. inr (has_among l i h)) (or_cases (eqb j i) (has l i) e)
 
 pub among_has : (l : List ℕ) (i : ℕ) → Among i l → has l i ≡ true

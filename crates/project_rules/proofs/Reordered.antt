@@ -1,8 +1,10 @@
 -- The order of a project's list matters neither to the check nor to fit.
 use Rattle.std.proofs.Common.{◌≡◌, ℕ, ◌<◌, Bool, true, false, cond, not, ◌&&◌, ◌||◌, eqb, List, [], ◌∷◌, map, length, get_or, IfSome, Some, None, Option, sym, refl, ap, ◌∙◌, subst, ap₂}
-use mathlib.Core.Path.{fun_ext}
+use Rattle.std.proofs.Math.Path.{fun_ext}
 use Rattle.std.specs.Str.{bytes_eq}
 use Rattle.std.proofs.lemmas.Bool.{or_left, or_right, eq-eqb, ne_eqb, eqb-true, eqb-false, lt-ltb}
+use Rattle.std.specs.Option.{unwrap_or}
+use Rattle.std.proofs.lemmas.Bool.Decides.{same_from_decides}
 use Rattle.types.specs.Types.{Name, Ty}
 use Rattle.cores.specs.Meaning.{Outcome}
 use Rattle.cores.specs.declared.interface.Operation.{Operation}
@@ -15,7 +17,6 @@ use Rattle.rules.specs.Signatures.{on_some}
 use Rattle.rules.specs.Syntax.{SignatureText}
 use Rattle.rules.specs.Naming.{unit_names, signature_names}
 use Rattle.rules.specs.Projects.{Units, no_units, more_units}
-use Rattle.rules.proofs.Finding.{clash}
 use Rattle.checker.specs.Units.{CheckAnswer, accepted, refused, check_units}
 use Rattle.project_rules.specs.Project.{ProjectUnit, some, first_where, nobody, unit_at, name_at, stored, strange, seen, place_of_head, first_lacking, order_of, behind, units_at}
 use Rattle.project_rules.specs.Check.{lacking, circular, unless_told, of_units, lacking_at, circular_at, check_in_turn, check_project}
@@ -27,40 +28,29 @@ use Rattle.project_rules.proofs.Answering.{answers_mean, right_means}
 use Rattle.project_rules.proofs.Fitting.{IsPlace, place_is, place_of_lem}
 use Rattle.project_rules.proofs.Carried.{Carries, one_place, load_order_carried, best_carried, cyclic_carried}
 
--- the place told, or 0
-abbrev or_zero : Option ℕ → ℕ
-or_zero (Some i) = i
-or_zero None = 0
-
 -- where the unit at a place of the first list stands in the second
 abbrev to : List ProjectUnit → List ProjectUnit → ℕ → ℕ
-to us vs i = or_zero (place_of (name_at us i) vs)
+to us vs i = unwrap_or (place_of (name_at us i) vs) 0
 
 present_too : (us vs : List ProjectUnit) → SameUnits us vs → (x : Name) → Present us x → Present vs x
 present_too us vs s x p =
     let r = place_among vs nobody (get_or us p.0 nobody) ((s (get_or us p.0 nobody)).0 (among_at us nobody p.0 p.1)) in
     (r.0, r.1, ap (λ u. u.text.name) r.2 ∙ p.2)
 
--- two tests are the same where each follows from the other
-same_test : (a b : Bool) → (a ≡ true → b ≡ true) → (b ≡ true → a ≡ true) → a ≡ b
-same_test true true f g = refl
-same_test true false f g = sym (f refl)
-same_test false true f g = g refl
-same_test false false f g = refl
-
 module _ (us vs : List ProjectUnit) (d : DistinctNames us) (d' : DistinctNames vs) (s : SameUnits us vs) where
   there : (i : ℕ) → i < length us → (to us vs i < length vs) × (get_or vs (to us vs i) nobody ≡ get_or us i nobody)
   there i l =
       let r = place_among vs nobody (get_or us i nobody) ((s (get_or us i nobody)).0 (among_at us nobody i l)) in
       let e : to us vs i ≡ r.0 =
-      ap (λ x. or_zero (place_of x vs)) (sym (ap (λ u. u.text.name) r.2)) ∙ ap or_zero (place_of_lem vs d' r.0 r.1) in
+      ap (λ x. unwrap_or (place_of x vs) 0) (sym (ap (λ u. u.text.name) r.2)) ∙ ap (λ o. unwrap_or o 0) (place_of_lem vs d' r.0 r.1) in
       (subst (λ j. j < length vs) (sym e) r.1, ap (λ j. get_or vs j nobody) e ∙ r.2)
 
   stored_same : (x : Name) → stored vs x ≡ stored us x
   stored_same x =
-      same_test (stored vs x) (stored us x)
-      (λ h. stored_from us x (present_too vs us (λ u. ((s u).1, (s u).0)) x (stored_told vs x h)))
-      (λ h. stored_from vs x (present_too us vs s x (stored_told us x h)))
+      same_from_decides (stored vs x) (stored us x) (
+        (λ h. stored_from us x (present_too vs us (λ u. ((s u).1, (s u).0)) x (stored_told vs x h))),
+        (λ h. stored_from vs x (present_too us vs s x (stored_told us x h))),
+      ) ((λ h. h), (λ h. h))
 
   strange_same : strange vs ≡ strange us
   strange_same = fun_ext (λ h. ap not (stored_same h.0))
@@ -129,7 +119,7 @@ up_to_in i [] j h = h
 up_to_in i (k ∷ l) j h = go (eqb k i) h (up_to_in i l j)
   where
     go : (b : Bool) → has (cond b [] (k ∷ up_to i l)) j ≡ true → (has (up_to i l) j ≡ true → has l j ≡ true) → (eqb k j || has l j) ≡ true
-    go true m ih = clash (cc)
+    go true m ih = cc
     go false m ih = over (eqb k j) m
       where
         over : (t : Bool) → (t || has (up_to i l) j) ≡ true → (t || has l j) ≡ true

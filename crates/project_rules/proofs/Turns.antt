@@ -5,7 +5,6 @@ use Rattle.types.specs.Types.{Name, Ty}
 use Rattle.cores.specs.Meaning.{Outcome}
 use Rattle.cores.specs.declared.interface.Operation.{Operation}
 use Rattle.rules.specs.Projects.{Units, no_units, more_units}
-use Rattle.rules.proofs.Finding.{clash}
 use Rattle.checker.specs.Numbered.{Sig}
 use Rattle.checker.specs.Faults.{Fault, number_of, Answer, ok, fault}
 use Rattle.checker.specs.Modules.{check_module}
@@ -37,7 +36,7 @@ module _ {C : Type 0} (rule : Operation → List Ty → Outcome C) (us : List Pr
 
   wrong_behind : (front is : List ℕ) (k : Known) (x : Name) (e : Fault C) → check_units rule (units_at us front) ≡ accepted k →
       check_units rule (behind us (units_at us front) is) ≡ refused x e → FirstWrong rule us (front ++ is) x e
-  wrong_behind front [] k x e h r = clash (cc)
+  wrong_behind front [] k x e h r = cc
   wrong_behind front (i ∷ is) k x e h r =
       go (check_module rule k.scope k.next (unit_at us i).body) refl (wrong_behind (front ++ i ∷ []) is)
     where

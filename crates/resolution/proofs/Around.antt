@@ -11,7 +11,6 @@ use Rattle.reader.specs.Scopes.{Scope, same_sort, Resolution, component, bound, 
 use Rattle.reader.specs.Notes.{Note, Around, deeper, outermost, plain, lower_head, notes_long_name, notes_labels, notes_type, notes_term, notes_atom, notes_signature, notes_specs, notes_arguments, notes_module, notes_items, notes_rank, notes_unit, notes_signature_text}
 use Rattle.reader.specs.Annotate.{is_missing}
 use Rattle.rules.specs.Syntax.{TypeText, label_text1, SpecTexts, no_specs, Module, Items, no_items}
-use Rattle.rules.proofs.Finding.{clash}
 use Rattle.resolution.specs.Places.{first, behind, beyond}
 use Rattle.resolution.specs.Heads.{Location, outward, past_variable, located, locate, binder_more, variable_more, binders, variables, upper_path, lower_path, dots, module_path_of, tail_path}
 use Rattle.resolution.specs.Counting.{is_variable, binders_within, variables_within, counted}
@@ -125,7 +124,7 @@ lower_closed scope (bound n) e h = at_either (is_variable n scope) (variables_wi
         ClosedPath (binders scope) (lower_path scope (cond t (Location.variable v) (Location.parameter m)))
     at_either true v m h = elim h [ ]
     at_either false v m h = elim h [ ]
-lower_closed scope nowhere e h = let z : ◌≡◌ {A = ℕ} 0 1 = cc in clash z
+lower_closed scope nowhere e h = cc
 
 value_closed : (scope : Scope) (x : Name) (place : ℕ) (r : Resolution) → is_missing (lower_head r) ≡ false →
     Fits Sort.Value (binders scope) (variables scope) (counted scope r) →
@@ -137,7 +136,7 @@ value_closed scope x place (bound n) e h = at_either (is_variable n scope) (vari
         ClosedTerm (binders scope) (variables scope) (lower_value scope x place (cond t (Location.variable v) (Location.parameter m)))
     at_either true v m h = h
     at_either false v m h = elim h [ ]
-value_closed scope x place nowhere e h = let z : ◌≡◌ {A = ℕ} 0 1 = cc in clash z
+value_closed scope x place nowhere e h = cc
 
 abbrev missed : Note → Bool
 missed n = is_missing n.head

@@ -10,7 +10,6 @@ use Rattle.reader.specs.Scopes.{Scope}
 use Rattle.reader.specs.Streams.{Stream, finish, broken, next, tokens_in}
 use Rattle.reader.specs.Notes.{Note, Around, deeper, plain, notes_tail, notes_long_name, notes_names, notes_labels, notes_type, notes_term, notes_atom, notes_arguments}
 use Rattle.reader.specs.Annotate.{first_where, with_places}
-use Rattle.rules.proofs.Finding.{clash}
 use Rattle.resolution.proofs.Common.{binding, last_token, no_tokens, next_token}
 
 -- no note of a token is bad
@@ -29,7 +28,7 @@ first_clear : (bad : Note → Bool) (n : Note) (p : ℕ) (rest : List (Note × �
 first_clear bad n p rest = go (bad n)
   where
     go : (b : Bool) → cond b (Some p) (first_where (λ m. bad m.0) rest) ≡ None → (b ≡ false) × (first_where (λ m. bad m.0) rest ≡ None)
-    go true e = let z : ◌≡◌ {A = ℕ} 0 1 = cc in clash z
+    go true e = cc
     go false e = (refl, e)
 
 -- a stream of these tokens in whose notes the first bad one is none

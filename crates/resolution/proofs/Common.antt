@@ -1,9 +1,5 @@
 -- What the proofs share: the tokens of a stream one by one, and the surroundings that the notes pass on.
-use mathlib.Core.Path.{◌≡◌, refl}
-use mathlib.Core.List.{List, [], ◌∷◌}
-use Prim.Native.Nat.{ℕ}
-use Rattle.std.specs.declared.option.Option.{Option}
-use Rattle.std.specs.declared.option.Option.TheVariants.{Some, None}
+use Rattle.std.proofs.Common.{[], ◌≡◌, ℕ, List, ◌∷◌, Some, None, Option, refl}
 use Rattle.types.specs.Types.{Name}
 use Rattle.reader.specs.declared.scope.Sort.{Sort}
 use Rattle.reader.specs.declared.scope.Binder.{Binder}
@@ -11,7 +7,6 @@ use Rattle.reader.specs.Tokens.{Token, text_end}
 use Rattle.reader.specs.Scopes.{Scope}
 use Rattle.reader.specs.Streams.{Stream, finish, broken, next, tokens_in, in_front}
 use Rattle.reader.specs.Notes.{Around, scoped, entering, with}
-use Rattle.rules.proofs.Finding.{clash}
 
 -- one component more is declared
 abbrev pub knowing : Sort → Name → Around Scope → Around Scope
@@ -27,7 +22,7 @@ last_token p ks e = cc
 
 -- a place without a token gives no tokens
 pub no_tokens : {A : Type 0} (p : ℕ) (ks : List Token) → tokens_in (broken p) ≡ Some ks → A
-no_tokens p ks e = let z : ◌≡◌ {A = ℕ} 0 1 = cc in clash z
+no_tokens p ks e = cc
 
 -- the tokens behind the next one
 pub next_token : (k : Token) (p : ℕ) (s : Stream) (ks : List Token) → tokens_in (next k p s) ≡ Some ks →
@@ -35,5 +30,5 @@ pub next_token : (k : Token) (p : ℕ) (s : Stream) (ks : List Token) → tokens
 next_token k p s ks = go (tokens_in s)
   where
     go : (o : Option (List Token)) → in_front k o ≡ Some ks → (js : List Token) × (o ≡ Some js) × (k ∷ js ≡ ks)
-    go None e = let z : ◌≡◌ {A = ℕ} 0 1 = cc in clash z
+    go None e = cc
     go (Some js) e = (js, refl, cc)

@@ -5,4 +5,3 @@ pub mod Clear
 pub mod Once
 pub mod Around
 pub mod Standing
-pub mod Samples

@@ -1,6 +1,7 @@
 -- A text in which the reader finds nothing declared again declares each sort and name once.
-use Rattle.std.proofs.Common.{◌≡◌, ℕ, Bool, true, false, cond, ◌&&◌, ◌||◌, List, [], ◌∷◌, Some, None, Option, sym, refl, ap, ◌∙◌, ap₂}
+use Rattle.std.proofs.Common.{◌≡◌, ℕ, Bool, true, false, cond, ◌&&◌, List, [], ◌∷◌, Some, None, Option, sym, refl, ap, ◌∙◌, ap₂}
 use Rattle.std.specs.Str.{bytes_eq}
+use Rattle.std.proofs.lemmas.Bool.{or_parts}
 use Rattle.types.specs.Types.{Name}
 use Rattle.reader.specs.declared.scope.Sort.{Sort}
 use Rattle.reader.specs.declared.scope.Binder.{Binder}
@@ -12,7 +13,7 @@ use Rattle.reader.specs.Notes.{Note, Around, deeper, outermost, plain, notes_sig
 use Rattle.rules.specs.Signatures.{Sort as RuleSort, a_type, a_value, a_module, same_sort as same_rule_sort, sort_of, first_of, find, Declaration}
 use Rattle.rules.specs.Syntax.{SpecTexts, no_specs, more_specs, SpecText, abstract_spec, defined_spec, value_spec, module_spec, components_of, declaration_of, Module, Items, no_items, more_items, Item, type_item, let_item, module_item}
 use Rattle.rules.specs.Rules.{item_sort, Undeclared}
-use Rattle.rules.proofs.Finding.{clash, same_sort_self, same_bytes_self}
+use Rattle.rules.proofs.Finding.{same_sort_self, same_bytes_self}
 use Rattle.checker.specs.Written.{OnceSig, OnceSpecs, OnceModule, OnceItems}
 use Rattle.resolution.specs.Places.{first, behind, beyond}
 use Rattle.resolution.specs.Behind.{past_type, past_term, past_signature, past_module}
@@ -38,10 +39,6 @@ sort_tests Sort.Module Sort.«Type» = refl
 sort_tests Sort.Module Sort.Value = refl
 sort_tests Sort.Module Sort.Module = refl
 
-neither : (a b : Bool) → a || b ≡ false → (a ≡ false) × (b ≡ false)
-neither true b e = let z : ◌≡◌ {A = ℕ} 0 1 = cc in clash z
-neither false b e = (refl, e)
-
 -- what the scope does not declare in its innermost structure or signature, the specs, or items, before do not declare
 abbrev CoversSpecs : Scope → SpecTexts → Type 0
 CoversSpecs scope c = (s : Sort) (x : Name) → is_declared s x scope ≡ false → find (rule_sort s) x (components_of c) ≡ None
@@ -53,7 +50,7 @@ CoversItems scope is = (s : Sort) (x : Name) → is_declared s x scope ≡ false
 specs_cover : (scope : Scope) (c : SpecTexts) (t : Sort) (y : Name) (d : SpecText) → sort_of (declaration_of d) ≡ rule_sort t →
     CoversSpecs scope c → CoversSpecs (entry (Binder.Component t) y scope) (more_specs c y d)
 specs_cover scope c t y d e h s x f =
-    let n = neither (same_sort s t && bytes_eq x y) (is_declared s x scope) f in
+    let n = or_parts (same_sort s t && bytes_eq x y) (is_declared s x scope) f in
     let g : same_rule_sort (rule_sort s) (sort_of (declaration_of d)) && bytes_eq x y ≡ false =
     ap (λ (r : RuleSort). same_rule_sort (rule_sort s) r && bytes_eq x y) e ∙ ap (λ (b : Bool). b && bytes_eq x y) (sym (sort_tests s t)) ∙ n.0 in
     ap₂ (λ (o : Option Declaration) (b : Bool). first_of o (cond b (Some (declaration_of d)) None)) (h s x n.1) g
@@ -61,13 +58,12 @@ specs_cover scope c t y d e h s x f =
 items_cover : (scope : Scope) (is : Items) (t : Sort) (y : Name) (i : Item) → item_sort i ≡ rule_sort t →
     CoversItems scope is → CoversItems (entry (Binder.Component t) y scope) (more_items is y i)
 items_cover scope is t y i e h s x f =
-    let n = neither (same_sort s t && bytes_eq x y) (is_declared s x scope) f in (
+    let n = or_parts (same_sort s t && bytes_eq x y) (is_declared s x scope) f in (
       h s x n.1,
       λ g k.
           let a : same_sort s t ≡ true = sort_tests s t ∙ ap (same_rule_sort (rule_sort s)) (sym e ∙ g) ∙ same_sort_self (rule_sort s) in
           let b : bytes_eq x y ≡ true = ap (bytes_eq x) k ∙ same_bytes_self x in
-          let z : ◌≡◌ {A = ℕ} 0 1 = cc (ap₂ (λ (p q : Bool). p && q) a b, n.0) in
-          clash z,
+          cc (ap₂ (λ (p q : Bool). p && q) a b, n.0),
     )
 
 abbrev again : Note → Bool

@@ -6,7 +6,7 @@ use Rattle.rules.specs.Signatures.{a_type, a_value, a_module, Signature, structu
 use Rattle.rules.specs.Substitution.{Substitution, under, outward, innermost, on_path, out, lift, reading, on_type, on_signature, on_components, on_declaration}
 use Rattle.rules.specs.Lookup.{Env, extend, At, head, inside, Has, Normal, opaque, unfolds, bare, part, parts}
 use Rattle.rules.proofs.Algebra.{after, signature_comp, signature_reading_on, type_reading_on, components_reading_on, signature_under_out}
-use Rattle.rules.proofs.Finding.{clash, find_on_some, normal_unique}
+use Rattle.rules.proofs.Finding.{find_on_some, normal_unique}
 use Rattle.rules.proofs.Inner.{Typed, Gives, g_structure, g_functor, GivesAll, g_none, g_abstract, g_defined, g_value, g_nested, Fits, f_structure, f_functor}
 
 -- what a declaration was before a substitution
@@ -17,26 +17,26 @@ was_abstract θ (value t) e = cc
 was_abstract θ (nested s) e = cc
 
 pub was_defined : (θ : Substitution) (d : Declaration) (t : Ty) → on_declaration θ d ≡ defined t → (u : Ty) × (d ≡ defined u) × (on_type θ u ≡ t)
-was_defined θ abstract t e = clash (cc)
+was_defined θ abstract t e = cc
 was_defined θ (defined u) t e = (u, refl, cc)
-was_defined θ (value u) t e = clash (cc)
-was_defined θ (nested s) t e = clash (cc)
+was_defined θ (value u) t e = cc
+was_defined θ (nested s) t e = cc
 
 pub was_value : (θ : Substitution) (d : Declaration) (t : Ty) → on_declaration θ d ≡ value t → (u : Ty) × (d ≡ value u) × (on_type θ u ≡ t)
-was_value θ abstract t e = clash (cc)
-was_value θ (defined u) t e = clash (cc)
+was_value θ abstract t e = cc
+was_value θ (defined u) t e = cc
 was_value θ (value u) t e = (u, refl, cc)
-was_value θ (nested s) t e = clash (cc)
+was_value θ (nested s) t e = cc
 
 pub was_nested : (θ : Substitution) (d : Declaration) (s : Signature) → on_declaration θ d ≡ nested s → (u : Signature) × (d ≡ nested u) × (on_signature θ u ≡ s)
-was_nested θ abstract t e = clash (cc)
-was_nested θ (defined u) t e = clash (cc)
-was_nested θ (value u) t e = clash (cc)
+was_nested θ abstract t e = cc
+was_nested θ (defined u) t e = cc
+was_nested θ (value u) t e = cc
 was_nested θ (nested s) t e = (s, refl, cc)
 
 pub was_some : {A B : Type 0} (f : A → B) (o : Option A) (b : B) → on_some f o ≡ Some b → (a : A) × (o ≡ Some a) × (f a ≡ b)
 was_some f (Some a) b e = (a, refl, cc)
-was_some f None b e = clash (cc)
+was_some f None b e = cc
 
 -- what is known in an environment with one more binder
 pub extend_cases :

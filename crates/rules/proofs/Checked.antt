@@ -1,5 +1,7 @@
 -- Where a signature is derived, in an environment that is coarser, the checker has one that matches it; and so for units.
 use Rattle.std.proofs.Common.{◌≡◌, ℕ, Bool, false, cond, List, Some, None, sym, refl, ap, ◌∙◌, subst}
+use Rattle.std.proofs.lemmas.Option.{same_Some}
+use Rattle.std.proofs.lemmas.Bool.{cond-true}
 use Rattle.types.specs.Types.{Name, Head, unit, at, Ty}
 use Rattle.cores.specs.Meaning.{Outcome, Stable}
 use Rattle.cores.specs.declared.interface.Operation.{Operation}
@@ -12,7 +14,7 @@ use Rattle.rules.specs.Rules.{Derives, by_path, by_items, by_functor, by_applica
 use Rattle.rules.specs.Environments.{unknown, with_unit}
 use Rattle.rules.specs.Projects.{Units, no_units, more_units, Loads, start, next}
 use Rattle.rules.specs.Checker.{and_then, unless, lookup, normalize, does_match, apply, check, check_all, check_units}
-use Rattle.rules.proofs.Finding.{clash, normal_normal}
+use Rattle.rules.proofs.Finding.{normal_normal}
 use Rattle.rules.proofs.Inner.{Gives, Fits, f_structure, f_functor, g_none, ProperEnv}
 use Rattle.rules.proofs.Along.{fits_along}
 use Rattle.rules.proofs.Exact.{Exact, exact_at, fits_fresh}
@@ -30,7 +32,7 @@ use Rattle.rules.proofs.Project.{unit_cases, unit_kept, finer_unit, none_kept, l
 use Rattle.rules.proofs.Settling.{Settled, SettledAll, SettledEnv, settled_proper, settled_env_proper, settled_extend, settled_finer, at_lookup, type_normal, then_some, then_is, unless_some, unless_is}
 use Rattle.rules.proofs.Normalizing.{fits_along_fresh, normalize_is, normalize_proper}
 use Rattle.rules.proofs.Deciding.{match_found}
-use Rattle.rules.proofs.Checking.{cond_is, has_type, all_together, undeclared_checked, check_checks}
+use Rattle.rules.proofs.Checking.{has_type, all_together, undeclared_checked, check_checks}
 
 -- what the checker finds, and that it matches
 pub record Finds {C : Type 0} (rule : Operation → List Ty → Outcome C) (Γ : Env) (m : Module) (s : Signature) : Type 0 where
@@ -54,7 +56,7 @@ unit_settled x s Γ f e w =
     (λ h t i. settled_finer Γ (with_unit x s Γ) t k (e h t i))
 
 pub none_settled : SettledEnv unknown
-none_settled h s q = clash (cc)
+none_settled h s q = cc
 
 module _ {C : Type 0} (n : ℕ) (rule : Operation → List Ty → Outcome C) (law : Stable n rule) where
   mutual
@@ -118,7 +120,7 @@ module _ {C : Type 0} (n : ℕ) (rule : Operation → List Ty → Outcome C) (la
         let steps : apply Γ p (functor s r) ≡ Some t =
         then_is (lookup Γ p) (λ a. and_then (normalize Γ (strengthen p a)) (λ b. cond (does_match Γ b s) (normalize Γ (on_signature (reading p) r)) None)) a t (at_lookup j.1)
         (then_is (normalize Γ (strengthen p a)) (λ b. cond (does_match Γ b s) (normalize Γ (on_signature (reading p) r)) None) b t q.1
-        (cond_is (does_match Γ b s) (normalize Γ (on_signature (reading p) r)) t m₂ y.1)) in
+        (cond-true _ (normalize Γ (on_signature (reading p) r)) None m₂ ∙ y.1)) in
         record {
           checked = t;
           is = then_is (check rule Γ m) (apply Γ p) (functor s r) t found steps;
@@ -137,7 +139,7 @@ module _ {C : Type 0} (n : ℕ) (rule : Operation → List Ty → Outcome C) (la
         record {
           checked = a;
           is = then_is (check rule Γ m) (λ g. and_then (normalize Γ s) (λ a. cond (does_match Γ g a) (Some a) None)) i.checked a i.is
-              (then_is (normalize Γ s) (λ a. cond (does_match Γ i.checked a) (Some a) None) a a q.1 (cond_is (does_match Γ i.checked a) (Some a) a b refl));
+              (then_is (normalize Γ s) (λ a. cond (does_match Γ i.checked a) (Some a) None) a a q.1 (cond-true _ (Some a) None b));
           settled = j.settled;
           matches = j.back;
         }
@@ -212,12 +214,9 @@ module _ {C : Type 0} (n : ℕ) (rule : Operation → List Ty → Outcome C) (la
 
   pub check_knows : (us : Units) (Γ : Env) → check_units rule us ≡ Some Γ → Knowing us Γ
   check_knows no_units Γ q =
-      let i : unknown ≡ Γ = some_is q in
+      let i : unknown ≡ Γ = same_Some _ _ q in
       subst (Knowing no_units) i
-      (record { settled = none_settled; own = unknown; loads = start; finer = λ h s q. clash (cc); absent = λ h f. f })
-    where
-      some_is : {a b : Env} → Some a ≡ Some b → a ≡ b
-      some_is e = cc
+      (record { settled = none_settled; own = unknown; loads = start; finer = λ h s q. (cc); absent = λ h f. f })
   check_knows (more_units us u) Γ q =
       let x = u.name in
       let w = then_some (check_units rule us) (λ Γ. unless (Γ (unit u.name)) (and_then (check rule Γ u.body) (λ s. Some (with_unit u.name s Γ)))) Γ q in
@@ -229,7 +228,7 @@ module _ {C : Type 0} (n : ℕ) (rule : Operation → List Ty → Outcome C) (la
       let j = check_checks n rule law u.body Γ₀ s i.settled y.1 in
       let o = principal n rule law j.derives (settled_env_proper Γ₀ i.settled) i.own (loads_proper n rule law i.loads) i.finer in
       let f = i.absent (unit x) v.0 in
-      subst (Knowing (more_units us u)) (some_is y.2)
+      subst (Knowing (more_units us u)) (same_Some _ _ y.2)
       (record {
         settled = unit_settled x s Γ₀ v.0 i.settled j.settled;
         own = with_unit x o.0 i.own;
@@ -237,9 +236,6 @@ module _ {C : Type 0} (n : ℕ) (rule : Operation → List Ty → Outcome C) (la
         finer = finer_unit x s o.0 Γ₀ i.own f i.finer (fits_trans o.2 (fits_finer i.finer j.matches));
         absent = none_kept x s o.0 Γ₀ i.own i.absent;
       })
-    where
-      some_is : {a b : Env} → Some a ≡ Some b → a ≡ b
-      some_is e = cc
 
   -- where units load, they check, and what is known is finer
   pub record Loaded (us : Units) (Γ' : Env) : Type 0 where
@@ -250,7 +246,7 @@ module _ {C : Type 0} (n : ℕ) (rule : Operation → List Ty → Outcome C) (la
     pub absent : (h : Head) → Γ' h ≡ None → known h ≡ None
 
   pub loads_check : {free : Bool} {us : Units} {Γ' : Env} → Loads rule free us Γ' → Loaded us Γ'
-  loads_check start = record { known = unknown; is = refl; settled = none_settled; finer = λ h s q. clash (cc); absent = λ h f. f }
+  loads_check start = record { known = unknown; is = refl; settled = none_settled; finer = λ h s q. (cc); absent = λ h f. f }
   loads_check (next {us = us} {u = u} {Γ = Γ'} s' l' f' d') =
       let x = u.name in
       let i = loads_check l' in

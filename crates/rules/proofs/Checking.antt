@@ -1,10 +1,11 @@
 -- The checker's signatures: where it has one, the module has an own signature that matches it, and where a signature is derived, it has one
 -- that matches that.
-use Rattle.std.proofs.Common.{◌≡◌, ℕ, Bool, true, false, cond, List, [], ◌∷◌, Some, None, Option, sym, refl, ap, ◌∙◌, subst}
+use Rattle.std.proofs.Common.{◌≡◌, ℕ, false, cond, List, [], ◌∷◌, Some, None, sym, refl, ap, ◌∙◌, subst}
 use Rattle.types.specs.Types.{Name, ModulePath, Ty}
 use Rattle.cores.specs.Meaning.{Outcome, gives, refuses, Stable}
 use Rattle.cores.specs.declared.interface.Operation.{Operation}
 use Rattle.cores.specs.declared.interface.Operation.TheVariants.{Literal, Function, Operator}
+use Rattle.cores.specs.Fits.{cond_some}
 use Rattle.rules.specs.Signatures.{Sort, a_type, a_value, a_module, Signature, structure, functor, Components, empty, more, Declaration, defined, value, nested, sort_of, find, on_some}
 use Rattle.rules.specs.Substitution.{reading, on_signature}
 use Rattle.rules.specs.Lookup.{Env, extend, At, Normal, unfolds}
@@ -12,7 +13,7 @@ use Rattle.rules.specs.Strengthening.{strengthen}
 use Rattle.rules.specs.Syntax.{type_of, signature_of, Term, variable, component, integer, operation, lambda, Terms, no_terms, more_terms, Module, module_path, struct, functor_of, applied, ascribed, Items, no_items, more_items, Item, type_item, let_item, module_item}
 use Rattle.rules.specs.Rules.{pick, item_sort, Undeclared, TermHas, of_variable, of_component, of_integer, of_operation, of_lambda, TermsHave, none_have, more_have, Derives, by_path, by_items, by_functor, by_application, by_signature, DerivesAll, no_item, type_too, let_too, module_too}
 use Rattle.rules.specs.Checker.{and_then, unless, declared, lookup, normal_type, normal_value, normalize, does_match, accepted, term_type, term_types, apply, check, check_all, check_item}
-use Rattle.rules.proofs.Finding.{clash, normal_normal}
+use Rattle.rules.proofs.Finding.{normal_normal}
 use Rattle.rules.proofs.Inner.{Gives, Fits, f_structure, f_functor, g_none}
 use Rattle.rules.proofs.Along.{was_some, fits_along}
 use Rattle.rules.proofs.Transitive.{Knows, knows_laws, knows_gives, fits_trans}
@@ -30,14 +31,7 @@ use Rattle.rules.proofs.Deciding.{normal_value_lem, match_tells}
 
 pub accepted_is : {C : Type 0} (o : Outcome C) (t : Ty) → accepted o ≡ Some t → o ≡ gives t
 accepted_is (gives u) t e = cc
-accepted_is (refuses c) t e = clash (cc)
-
-pub cond_some : {A : Type 0} (b : Bool) (o : Option A) (a : A) → cond b o None ≡ Some a → (b ≡ true) × (o ≡ Some a)
-cond_some true o a e = (refl, e)
-cond_some false o a e = clash (cc)
-
-pub cond_is : {A : Type 0} (b : Bool) (o : Option A) (a : A) → b ≡ true → o ≡ Some a → cond b o None ≡ Some a
-cond_is b o a e q = ap (λ z. cond z o None) e ∙ q
+accepted_is (refuses c) t e = cc
 
 -- terms
 module _ {C : Type 0} (rule : Operation → List Ty → Outcome C) where
@@ -142,7 +136,7 @@ module _ {C : Type 0} (n : ℕ) (rule : Operation → List Ty → Outcome C) (la
   apply_checks :
       (Γ : Env) (place argument : ℕ) (m : Module) (p : ModulePath) (f t : Signature) → SettledEnv Γ → Checks rule Γ m f → apply Γ p f ≡ Some t →
       Checks rule Γ (applied place m argument p) t
-  apply_checks Γ place argument m p (structure c) t e k q = clash (cc)
+  apply_checks Γ place argument m p (structure c) t e k q = cc
   apply_checks Γ place argument m p (functor s r) t e k q =
       let w = then_some (lookup Γ p) (λ a. and_then (normalize Γ (strengthen p a)) (λ b. cond (does_match Γ b s) (normalize Γ (on_signature (reading p) r)) None)) t q in
       let a = w.0 in

@@ -1,13 +1,14 @@
 -- What a path gives, its strengthened signature matches. A fresh module z of the strengthened signature has no abstract type
 -- outside functors, so that no normal form names it, and it behaves as the path.
 use Rattle.std.proofs.Common.{◌≡◌, ◌⊎◌, Some, None, sym, refl, ap, ◌∙◌, subst, ap₂, subst₂, inl, inr}
+use Rattle.std.proofs.lemmas.Option.{same_Some}
 use Rattle.types.specs.Types.{Name, ModulePath, at, dot, named, Ty, leaf, label1, label2}
 use Rattle.rules.specs.Signatures.{Sort, a_type, a_value, a_module, Signature, structure, functor, Components, empty, more, Declaration, abstract, defined, value, nested, sort_of, find, on_some}
 use Rattle.rules.specs.Substitution.{Substitution, under, innermost, on_path, out, lift, reading, on_type, on_signature, on_components, on_declaration}
 use Rattle.rules.specs.Lookup.{Env, extend, At, head, inside, Has, Normal, opaque, unfolds, bare, part, parts}
 use Rattle.rules.specs.Strengthening.{strengthen, strengthen_all, strengthen_one}
 use Rattle.rules.proofs.Algebra.{after, path_comp, signature_comp, signature_id, signature_reading_out, declaration_reading_on, components_reading_on, components_reading_lift, components_fresh}
-use Rattle.rules.proofs.Finding.{clash, find_cases, find_off, find_on_some, at_unique, has_unique, normal_unique, normal_normal}
+use Rattle.rules.proofs.Finding.{find_cases, find_off, find_on_some, at_unique, has_unique, normal_unique, normal_normal}
 use Rattle.rules.proofs.Inner.{Gives, g_structure, g_functor, GivesAll, g_none, Fits, f_structure, Proper, ProperAll, ProperOne, ProperEnv}
 use Rattle.rules.proofs.Along.{was_nested, was_value, normal_along, typed_along, abstract_along}
 use Rattle.rules.proofs.Exact.{at_weaken, gives_weaken}
@@ -65,7 +66,7 @@ mutual
   strengthen_one_transparent (nested s) p x = strengthen_transparent s (dot p x)
 
 transparent_found : (c : Components) → TransparentAll c → (s : Sort) (x : Name) (d : Declaration) → find s x c ≡ Some d → TransparentOne d
-transparent_found empty w s x d f = clash (cc)
+transparent_found empty w s x d f = cc
 transparent_found (more c y e) w s x d f = go (transparent_found c w.0 s x d) (find_cases c y e s x d f)
   where
     go :
@@ -74,12 +75,9 @@ transparent_found (more c y e) w s x d f = go (transparent_found c w.0 s x d) (f
     go ih (inl f') = ih f'
     go ih (inr r) = subst TransparentOne r.1 w.1
 
-some_is : {A : Type 0} {a b : A} → Some a ≡ Some b → a ≡ b
-some_is e = cc
-
 -- under a fresh module of a transparent signature, paths that begin at it lead to transparent signatures
 fresh_transparent : {q : ModulePath} → Fresh q → (Γ : Env) (g s : Signature) → Transparent g → At (extend Γ g) q s → Transparent s
-fresh_transparent fresh_head Γ g s w (head e) = subst Transparent (some_is e) (transparent_on g out w)
+fresh_transparent fresh_head Γ g s w (head e) = subst Transparent (same_Some _ _ e) (transparent_on g out w)
 fresh_transparent (fresh_dot {p = q} {x = x} f) Γ g s w (inside c d a found r) =
     subst Transparent r
     (transparent_on d (reading q) (transparent_found c (fresh_transparent f Γ g (structure c) w a) a_module x (nested d) found))
@@ -102,9 +100,9 @@ normal_has {Γ} (unfolds {p = q} {x = y} t h m) p x e =
     let ep : q ≡ p = cc in
     let ex : y ≡ x = cc in
     (defined t, subst₂ (λ a b. Has Γ a a_type b (defined t)) ep ex h)
-normal_has bare p x e = clash (cc)
-normal_has (part m) p x e = clash (cc)
-normal_has (parts m k) p x e = clash (cc)
+normal_has bare p x e = cc
+normal_has (part m) p x e = cc
+normal_has (parts m k) p x e = cc
 
 pub at_has : {Γ : Env} {q : ModulePath} {x : Name} {g : Signature} → At Γ (dot q x) g → Has Γ q a_module x (nested g)
 at_has (inside c d a f r) = record { components = c; declared = nested d; leads = a; found = f; reads = ap nested r }
@@ -287,7 +285,7 @@ fits_back Γ b c (g_structure f x m) = f_structure (subst (GivesAll (extend Γ (
 -- what a path gives, its strengthened signature matches
 pub gives_strengthened : (s s' : Signature) (Γ : Env) (p : ModulePath) → ProperEnv Γ → At Γ p s → Proper Γ s' → Gives Γ p s' → Fits Γ (strengthen p s) s'
 gives_strengthened (functor s r) (functor s' r') Γ p e a w (g_functor f at' m) = subst (λ z. Fits Γ z (functor s' r')) (at_unique at' a) m
-gives_strengthened (functor s r) (structure c) Γ p e a w (g_structure b at' m) = let q = at_unique at' a in clash (cc)
+gives_strengthened (functor s r) (structure c) Γ p e a w (g_structure b at' m) = let q = at_unique at' a in cc
 gives_strengthened (structure b) (functor s' r') Γ p e a w (g_functor f at' m) =
     let m' : Fits Γ (structure b) (functor s' r') = subst (λ z. Fits Γ z (functor s' r')) (at_unique at' a) m in elim m' [ ]
 gives_strengthened (structure b) (structure c) Γ p e a w m =

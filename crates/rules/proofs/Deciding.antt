@@ -1,12 +1,14 @@
 -- The matching function tells whether a settled signature matches.
 use Rattle.std.proofs.Common.{◌≡◌, ℕ, zero, suc, ◌+◌, ◌≤◌, Bool, true, ◌&&◌, Some, None, Option, sym, refl, ap, ◌∙◌, subst, ap₂, le_refl, arith}
+use Rattle.std.proofs.lemmas.Bool.{and_parts}
 use Rattle.types.specs.Types.{Name, ModulePath, dot, named, Ty, leaf}
+use Rattle.types.proofs.Same.{same_equal, same_self}
 use Rattle.rules.specs.Signatures.{a_type, a_value, a_module, Signature, structure, functor, Components, empty, more, Declaration, abstract, defined, value, nested, find, extent, extent_all, extent_one}
 use Rattle.rules.specs.Substitution.{Substitution, under, innermost, out, lift, reading, on_type, on_signature, on_components, on_declaration}
 use Rattle.rules.specs.Lookup.{Env, extend, At, head}
 use Rattle.rules.specs.Checker.{given, declared, lookup, normal_type, normalize, is_structure, same_form, normal_value, offered, offered_all, offered_one, matches_to, does_match}
 use Rattle.rules.proofs.Algebra.{components_id, components_reading_lift, extent_on}
-use Rattle.rules.proofs.Finding.{clash, extent_found, at_unique}
+use Rattle.rules.proofs.Finding.{extent_found, at_unique}
 use Rattle.rules.proofs.Inner.{Gives, g_structure, g_functor, GivesAll, g_none, Fits, f_structure, f_functor, Proper, ProperAll, ProperOne}
 use Rattle.rules.proofs.Along.{was_nested}
 use Rattle.rules.proofs.Exact.{under_fresh}
@@ -14,28 +16,27 @@ use Rattle.rules.proofs.Transitive.{knows_gives, GivesOne, gives_last, gives_mor
 use Rattle.rules.proofs.Knowing.{Along, out_along, under_along, fits_finer}
 use Rattle.rules.proofs.Properness.{proper_along, proper_finer, has_typed}
 use Rattle.rules.proofs.Converse.{normal_has, at_has, gives_at}
-use Rattle.rules.proofs.Equality.{both_true, same_is, same_self}
 use Rattle.rules.proofs.Settling.{Settled, SettledEnv, settled_proper, settled_env_proper, settled_extend, settled_at, lookup_at, at_lookup, declared_has, has_declared, normal_type_lem, type_normal, given_true, given_is}
 use Rattle.rules.proofs.Normalizing.{fits_along_fresh, normalize_is, normalize_proper}
 
 is_structure_lem : (o : Option Signature) → is_structure o ≡ true → (c : Components) × (o ≡ Some (structure c))
-is_structure_lem None e = clash (cc)
+is_structure_lem None e = cc
 is_structure_lem (Some (structure c)) e = (c, refl)
-is_structure_lem (Some (functor s r)) e = clash (cc)
+is_structure_lem (Some (functor s r)) e = cc
 
 same_form_lem : (a b : Option Ty) → same_form a b ≡ true → (n : Ty) × (a ≡ Some n) × (b ≡ Some n)
-same_form_lem None b e = clash (cc)
-same_form_lem (Some t) None e = clash (cc)
-same_form_lem (Some t) (Some u) e = (t, refl, ap Some (sym (same_is t u e)))
+same_form_lem None b e = cc
+same_form_lem (Some t) None e = cc
+same_form_lem (Some t) (Some u) e = (t, refl, ap Some (sym (same_equal t u e)))
 
 form_same : (a b : Option Ty) (n : Ty) → a ≡ Some n → b ≡ Some n → same_form a b ≡ true
 form_same a b n p q = ap₂ same_form p q ∙ same_self n
 
 pub normal_value_lem : (Γ : Env) (d : Declaration) (n : Ty) → normal_value Γ d ≡ Some n → (u : Ty) × (d ≡ value u) × (normal_type Γ u ≡ Some n)
-normal_value_lem Γ abstract n e = clash (cc)
-normal_value_lem Γ (defined t) n e = clash (cc)
+normal_value_lem Γ abstract n e = cc
+normal_value_lem Γ (defined t) n e = cc
 normal_value_lem Γ (value t) n e = (t, refl, e)
-normal_value_lem Γ (nested s) n e = clash (cc)
+normal_value_lem Γ (nested s) n e = cc
 
 -- what is asked of the test for functors
 abbrev pub Tells : (Env → Signature → Signature → Bool) → Type 0
@@ -67,7 +68,7 @@ module _ (f : Env → Signature → Signature → Bool) (tell : Tells f) where
         (s : Signature) (Γ' Γ : Env) (θ : Substitution) (p : ModulePath) → SettledEnv Γ → Proper Γ' s → Along θ Γ' Γ →
         offered f Γ p θ s ≡ true → Gives Γ p (on_signature θ s)
     offered_gives (structure c) Γ' Γ θ p e w k q =
-        let b = both_true (is_structure (lookup Γ p)) (offered_all f Γ p (under p θ) c) q in
+        let b = and_parts (is_structure (lookup Γ p)) (offered_all f Γ p (under p θ) c) q in
         let g = is_structure_lem (lookup Γ p) b.0 in
         let a = lookup_at Γ p (structure g.0) g.1 in
         g_structure g.0 a
@@ -83,7 +84,7 @@ module _ (f : Env → Signature → Signature → Bool) (tell : Tells f) where
         At Γ p (structure g) → offered_all f Γ p (under p θ) c ≡ true → GivesAll Γ p (on_components (under p θ) c)
     offered_all_gives empty Γ' Γ θ p g e w k a q = g_none
     offered_all_gives (more c x d) Γ' Γ θ p g e w k a q =
-        let b = both_true (offered_all f Γ p (under p θ) c) (offered_one f Γ p (under p θ) x d) q in
+        let b = and_parts (offered_all f Γ p (under p θ) c) (offered_one f Γ p (under p θ) x d) q in
         let m = offered_all_gives c Γ' Γ θ p g e w.0 k a b.0 in
         let k+ = under_along θ Γ' Γ p (structure c) k
         (knows_gives (g_structure g a (subst (GivesAll Γ p) (sym (components_reading_lift p θ c)) m))) in
@@ -155,7 +156,7 @@ module _ (n : ℕ) (f : Env → Signature → Signature → Bool) (found : Finds
         gives_offered s Γ' Γ θ (dot p x) b.0 e w k b.1 l' m
 
 pub matches_tells : (n : ℕ) (Γ : Env) (a b : Signature) → SettledEnv Γ → Settled Γ a → Proper Γ b → matches_to n Γ a b ≡ true → Fits Γ a b
-matches_tells zero Γ a b e w v q = clash (cc)
+matches_tells zero Γ a b e w v q = cc
 matches_tells (suc n) Γ (structure g) (structure c) e w v q =
     let Γ+ = extend Γ (structure g) in
     let q' : offered_all (matches_to n) Γ+ innermost (under innermost out) c ≡ true =
@@ -163,13 +164,13 @@ matches_tells (suc n) Γ (structure g) (structure c) e w v q =
     let m = offered_all_gives (matches_to n) (λ Γ g s r. matches_tells n Γ g (functor s r)) c Γ Γ+ out innermost (on_components (lift out) g)
     (settled_extend Γ (structure g) e w) v (out_along Γ (structure g)) (head refl) q' in
     f_structure (subst (GivesAll Γ+ innermost) (ap (λ θ. on_components θ c) under_fresh ∙ components_id c) m)
-matches_tells (suc n) Γ (structure g) (functor s r) e w v q = clash (cc)
-matches_tells (suc n) Γ (functor s r) (structure c) e w v q = clash (cc)
+matches_tells (suc n) Γ (structure g) (functor s r) e w v q = cc
+matches_tells (suc n) Γ (functor s r) (structure c) e w v q = cc
 matches_tells (suc n) Γ (functor s r) (functor s' r') e w v q =
     let x = given_true (normalize Γ s') (λ a. matches_to n Γ a s && given (normalize (extend Γ a) r) (λ b. matches_to n (extend Γ a) b r')) q in
     let a = x.0 in
     let i = normalize_is s' Γ a e x.1 in
-    let y = both_true (matches_to n Γ a s) (given (normalize (extend Γ a) r) (λ b. matches_to n (extend Γ a) b r')) x.2 in
+    let y = and_parts (matches_to n Γ a s) (given (normalize (extend Γ a) r) (λ b. matches_to n (extend Γ a) b r')) x.2 in
     let first = matches_tells n Γ a s e i.settled (settled_proper s Γ w.0) y.0 in
     let z = given_true (normalize (extend Γ a) r) (λ b. matches_to n (extend Γ a) b r') y.1 in
     let e+ = settled_extend Γ a e i.settled in
@@ -180,8 +181,8 @@ matches_tells (suc n) Γ (functor s r) (functor s' r') e w v q =
 
 pub matches_found :
     (n : ℕ) (Γ : Env) (a b : Signature) → SettledEnv Γ → Settled Γ a → Proper Γ b → extent a + extent b ≤ n → Fits Γ a b → matches_to n Γ a b ≡ true
-matches_found zero Γ (structure g) b e w v l m = let z : ⊥ = omega arith in absurd z
-matches_found zero Γ (functor s r) b e w v l m = let z : ⊥ = omega arith in absurd z
+matches_found zero Γ (structure g) b e w v l m = absurd (omega arith)
+matches_found zero Γ (functor s r) b e w v l m = absurd (omega arith)
 matches_found (suc n) Γ (structure g) (structure c) e w v l (f_structure m) =
     let Γ+ = extend Γ (structure g) in
     let i = extent_on out (structure g) in

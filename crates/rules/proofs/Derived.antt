@@ -12,7 +12,7 @@ use Rattle.rules.specs.Matching.{Matches}
 use Rattle.rules.specs.Strengthening.{strengthen}
 use Rattle.rules.specs.Syntax.{Module, Items, signature_of, type_of}
 use Rattle.rules.specs.Rules.{Undeclared, TermHas, Derives, by_path, by_items, by_functor, by_application, by_signature, by_matching, DerivesAll, no_item, type_too, let_too, module_too}
-use Rattle.rules.proofs.Finding.{clash, same_sort_is, at_unique}
+use Rattle.rules.proofs.Finding.{same_sort_is, at_unique}
 use Rattle.rules.proofs.Inner.{Gives, Proper, ProperAll, ProperEnv}
 use Rattle.rules.proofs.Transitive.{knows_gives}
 use Rattle.rules.proofs.Knowing.{id_along, reading_along}
@@ -80,21 +80,21 @@ module _ {C : Type 0} (rule : Operation → List Ty → Outcome C) where
   mutual
     pub derives_unique : {Γ : Env} {m : Module} {s s' : Signature} → Derives rule false Γ m s → Derives rule false Γ m s' → s ≡ s'
     derives_unique (by_path {p = p} s a) (by_path s' a') = ap (strengthen p) (at_unique a a')
-    derives_unique (by_path s a) (by_matching g f d w m) = clash (cc)
+    derives_unique (by_path s a) (by_matching g f d w m) = cc
     derives_unique (by_items d) (by_items d') = ap structure (derives_all_unique d d')
-    derives_unique (by_items d) (by_matching g f d' w m) = clash (cc)
+    derives_unique (by_items d) (by_matching g f d' w m) = cc
     derives_unique (by_functor {s = s} w d) (by_functor w' d') = ap (functor (signature_of s)) (derives_unique d d')
-    derives_unique (by_functor w d) (by_matching g f d' w' m) = clash (cc)
+    derives_unique (by_functor w d) (by_matching g f d' w' m) = cc
     derives_unique (by_application {p = p} s r a d x m) (by_application s' r' a' d' x' m') =
         let q = derives_unique d d' in
         let i : r ≡ r' = cc in
         ap (on_signature (reading p)) i
-    derives_unique (by_application s r a d x m) (by_matching g f d' w' m') = clash (cc)
+    derives_unique (by_application s r a d x m) (by_matching g f d' w' m') = cc
     derives_unique (by_signature g d w m) (by_signature g' d' w' m') = refl
-    derives_unique (by_signature g d w m) (by_matching g' f d' w' m') = clash (cc)
-    derives_unique (by_matching g f d w m) d' = clash (cc)
+    derives_unique (by_signature g d w m) (by_matching g' f d' w' m') = cc
+    derives_unique (by_matching g f d w m) d' = cc
 
-    derives_all_unique : {Γ : Env} {is : Items} {c c' : Components} → DerivesAll rule false Γ is c → DerivesAll rule false Γ is c' → c ≡ c'
+    pub derives_all_unique : {Γ : Env} {is : Items} {c c' : Components} → DerivesAll rule false Γ is c → DerivesAll rule false Γ is c' → c ≡ c'
     derives_all_unique no_item no_item = refl
     derives_all_unique (type_too {x = x} {t = t} d u l) (type_too d' u' l') = ap (λ c. more c x (defined (type_of t))) (derives_all_unique d d')
     derives_all_unique {Γ} (let_too {x = x} {t = t} {n = n} d u h) (let_too {c = c'} {n = n'} d' u' h') =

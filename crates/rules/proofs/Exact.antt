@@ -1,6 +1,6 @@
 -- Substitutions along which what is known is exactly the same, or a structure with more components behind: weakening.
 use Rattle.std.proofs.Common.{◌≡◌, zero, suc, Some, sym, refl, ap, ◌∙◌, subst}
-use mathlib.Core.Path.{fun_ext}
+use Rattle.std.proofs.Math.Path.{fun_ext}
 use Rattle.types.specs.Types.{Name, Head, unit, binder, ModulePath, at, dot, named, leaf}
 use Rattle.rules.specs.Signatures.{Sort, a_type, a_value, a_module, Signature, structure, functor, Components, Declaration, abstract, defined, value, nested, find, on_some}
 use Rattle.rules.specs.Substitution.{Substitution, under, outward, innermost, on_path, out, lift, reading, on_type, on_signature, on_components, on_declaration}

@@ -1,6 +1,9 @@
 -- The mismatch that is told is the first.
 use Rattle.std.proofs.Common.{◌≡◌, ℕ, zero, suc, ◌+◌, ◌≤◌, Bool, true, false, Some, None, Option, sym, refl, ap, ◌∙◌, subst, ap₂, le_refl, arith}
+use Rattle.std.proofs.lemmas.Option.{same_Some}
+use Rattle.std.specs.Option.{is_none}
 use Rattle.types.specs.Types.{Name, ModulePath, dot, named, Ty, leaf}
+use Rattle.types.proofs.Same.{same_self}
 use Rattle.rules.specs.Signatures.{a_type, a_value, a_module, Signature, structure, functor, Components, empty, more, Declaration, abstract, defined, value, nested, first_of, extent, extent_all, extent_one}
 use Rattle.rules.specs.Substitution.{Substitution, under, innermost, out, lift, on_type, on_signature, on_components, on_declaration}
 use Rattle.rules.specs.Lookup.{Env, extend, At, head, Has, Same}
@@ -9,35 +12,27 @@ use Rattle.rules.specs.Matching.{OffersAll}
 use Rattle.rules.specs.Faults.{Mismatch, fails, if_there, if_structure, if_same, lacks, lacks_all, lacks_one, if_normal, mismatch_to, mismatch}
 use Rattle.rules.specs.Failures.{Tidy, nothing_yet, a_unit, a_binder, FirstFailure, in_structure, functor_wanted, structure_wanted, in_parameter, in_result, FirstLack, earlier, absent, other_value, other_type, in_module, ModuleLacks, not_structure, in_components, against_functor}
 use Rattle.rules.proofs.Algebra.{components_id, components_reading_lift, extent_on}
-use Rattle.rules.proofs.Finding.{clash}
 use Rattle.rules.proofs.Inner.{g_structure, GivesAll, Proper, ProperAll, ProperOne}
 use Rattle.rules.proofs.Exact.{under_fresh}
 use Rattle.rules.proofs.Transitive.{knows_gives}
 use Rattle.rules.proofs.Knowing.{Along, out_along, under_along}
 use Rattle.rules.proofs.Properness.{proper_along, proper_finer, has_sort}
 use Rattle.rules.proofs.Wording.{gives_all_offers, fits_matches}
-use Rattle.rules.proofs.Equality.{same_self}
 use Rattle.rules.proofs.Settling.{Settled, SettledEnv, settled_proper, settled_extend, settled_at, lookup_at, at_lookup, declared_has, has_declared, type_normal}
 use Rattle.rules.proofs.Normalizing.{fits_along_fresh, normalize_is, normalize_proper}
 use Rattle.rules.proofs.Deciding.{Tells, offered_all_gives, below_extent, matches_tells}
 use Rattle.rules.proofs.Checked.{unit_settled, none_settled}
-use Rattle.rules.proofs.Mirror.{is_none, lacks_all_is, mismatch_is}
+use Rattle.rules.proofs.Mirror.{lacks_all_is, mismatch_is}
 
 pub tidy_settled : {Γ : Env} → Tidy Γ → SettledEnv Γ
 tidy_settled nothing_yet = none_settled
 tidy_settled (a_unit {Γ = Γ} x s t f q) = unit_settled x s Γ f (tidy_settled t) (normalize_is s Γ s (tidy_settled t) q).settled
 tidy_settled (a_binder {Γ = Γ} s t q) = settled_extend Γ s (tidy_settled t) (normalize_is s Γ s (tidy_settled t) q).settled
 
-some_is : {A : Type 0} {y z : A} → Some y ≡ Some z → y ≡ z
-some_is e = cc
-
 -- the first of two mismatches
 first_cases : (a b : Option Mismatch) (m : Mismatch) → first_of a b ≡ Some m → (P : Type 0) → (a ≡ Some m → P) → (a ≡ None → b ≡ Some m → P) → P
 first_cases (Some x) b m e P l r = l e
 first_cases None b m e P l r = r refl e
-
-none_is : {A : Type 0} (o : Option A) → o ≡ None → is_none o ≡ true
-none_is o e = ap is_none e
 
 same_true : (Γ : Env) (t u : Ty) → SettledEnv Γ → Same Γ t u → same_form (normal_type Γ t) (normal_type Γ u) ≡ true
 same_true Γ t u e s = ap₂ same_form (type_normal e s.left) (type_normal e s.right) ∙ same_self s.form
@@ -60,7 +55,7 @@ module _ (n : ℕ) (f : Env → Option Name → Signature → Signature → Opti
         in_components (subst (λ z. FirstLack Γ p z m) (sym (components_reading_lift p θ c)) (lacks_all_first c Γ' Γ θ p g m e v k a l' q'))
     lacks_first (structure c) Γ' Γ θ p w (functor x y) m e v k a l q =
         let q' : fails w 4 ≡ Some m = sym (ap (λ o. if_there w o (if_structure w (lacks_all f Γ p (under p θ) c))) (at_lookup a)) ∙ q in
-        let i : record { component = w; cause = 4 } ≡ m = some_is q' in
+        let i : record { component = w; cause = 4 } ≡ m = same_Some _ _ q' in
         subst (ModuleLacks Γ p w (functor x y) (on_signature θ (structure c))) i not_structure
     lacks_first (functor s r) Γ' Γ θ p w g m e v k a l q =
         let q' : f Γ w g (on_signature θ (functor s r)) ≡ Some m = sym (ap (λ o. if_there w o (λ g. f Γ w g (on_signature θ (functor s r)))) (at_lookup a)) ∙ q in
@@ -72,14 +67,14 @@ module _ (n : ℕ) (f : Env → Option Name → Signature → Signature → Opti
         (c : Components) (Γ' Γ : Env) (θ : Substitution) (p : ModulePath) (g : Components) (m : Mismatch) → SettledEnv Γ → ProperAll Γ' c →
         Along θ Γ' Γ → At Γ p (structure g) → extent_all g + extent_all c ≤ n → lacks_all f Γ p (under p θ) c ≡ Some m →
         FirstLack Γ p (on_components (under p θ) c) m
-    lacks_all_first empty Γ' Γ θ p g m e v k a l q = clash (cc)
+    lacks_all_first empty Γ' Γ θ p g m e v k a l q = cc
     lacks_all_first (more c x d) Γ' Γ θ p g m e v k a l q =
         let l₁ : extent_all g + extent_all c ≤ n = omega arith in
         let l₂ : extent_all g + extent_one d ≤ n = omega arith in
         first_cases (lacks_all f Γ p (under p θ) c) (lacks_one f Γ p (under p θ) x d) m q (FirstLack Γ p (on_components (under p θ) (more c x d)) m)
         (λ q'. earlier (lacks_all_first c Γ' Γ θ p g m e v.0 k a l₁ q'))
         (λ none' q'.
-        let t = sym (lacks_all_is f b is c Γ p (under p θ)) ∙ none_is (lacks_all f Γ p (under p θ) c) none' in
+        let t = sym (lacks_all_is f b is c Γ p (under p θ)) ∙ ap is_none none' in
         let given' = offered_all_gives b tell c Γ' Γ θ p g e v.0 k a t in
         let k+ = under_along θ Γ' Γ p (structure c) k
         (knows_gives (g_structure g a (subst (GivesAll Γ p) (sym (components_reading_lift p θ c)) given'))) in
@@ -93,47 +88,47 @@ module _ (n : ℕ) (f : Env → Option Name → Signature → Signature → Opti
       where
         go : (z : Option Declaration) → declared p a_type x (lookup Γ p) ≡ z → if_there (Some x) z (λ d. None) ≡ Some m → FirstLack Γ p (more c x abstract) m
         go None i q =
-            subst (FirstLack Γ p (more c x abstract)) (some_is q)
-            (absent o (λ h' h. let j = has_declared h in clash (cc)))
-        go (Some h) i q = clash (cc)
+            subst (FirstLack Γ p (more c x abstract)) (same_Some _ _ q)
+            (absent o (λ h' h. let j = has_declared h in cc))
+        go (Some h) i q = cc
     lacks_one_first (defined t) Γ' Γ θ p g c x m e v k a l o q = go (declared p a_type x (lookup Γ p)) refl q
       where
         test : Bool
         test = same_form (normal_type Γ (leaf (named p x))) (normal_type Γ (on_type θ t))
 
         differs : (z : Bool) → test ≡ z → (h : Declaration) → Has Γ p a_type x h → if_same (Some x) 3 z ≡ Some m → FirstLack Γ p (more c x (defined (on_type θ t))) m
-        differs true i h j q = clash (cc)
+        differs true i h j q = cc
         differs false i h j q =
-            subst (FirstLack Γ p (more c x (defined (on_type θ t)))) (some_is q)
-            (other_type h o j (λ s. let y = same_true Γ (leaf (named p x)) (on_type θ t) e s in clash (cc)))
+            subst (FirstLack Γ p (more c x (defined (on_type θ t)))) (same_Some _ _ q)
+            (other_type h o j (λ s. let y = same_true Γ (leaf (named p x)) (on_type θ t) e s in cc))
 
         go :
             (z : Option Declaration) → declared p a_type x (lookup Γ p) ≡ z →
             if_there (Some x) z (λ d. if_same (Some x) 3 test) ≡ Some m → FirstLack Γ p (more c x (defined (on_type θ t))) m
         go None i q =
-            subst (FirstLack Γ p (more c x (defined (on_type θ t)))) (some_is q)
-            (absent o (λ h' h. let j = has_declared h in clash (cc)))
+            subst (FirstLack Γ p (more c x (defined (on_type θ t)))) (same_Some _ _ q)
+            (absent o (λ h' h. let j = has_declared h in cc))
         go (Some h) i q = differs test refl h (declared_has Γ p a_type x h i) q
     lacks_one_first (value t) Γ' Γ θ p g c x m e v k a l o q = go (declared p a_value x (lookup Γ p)) refl q
       where
         differs :
             (h : Declaration) → Has Γ p a_value x h → (z : Bool) → same_form (normal_value Γ h) (normal_type Γ (on_type θ t)) ≡ z →
             if_same (Some x) 2 z ≡ Some m → FirstLack Γ p (more c x (value (on_type θ t))) m
-        differs abstract j z i q = let y = has_sort j in clash (cc)
-        differs (defined u) j z i q = let y = has_sort j in clash (cc)
-        differs (nested s) j z i q = let y = has_sort j in clash (cc)
-        differs (value u) j true i q = clash (cc)
+        differs abstract j z i q = let y = has_sort j in cc
+        differs (defined u) j z i q = let y = has_sort j in cc
+        differs (nested s) j z i q = let y = has_sort j in cc
+        differs (value u) j true i q = cc
         differs (value u) j false i q =
-            subst (FirstLack Γ p (more c x (value (on_type θ t)))) (some_is q)
-            (other_value u o j (λ s. let y = same_true Γ u (on_type θ t) e s in clash (cc)))
+            subst (FirstLack Γ p (more c x (value (on_type θ t)))) (same_Some _ _ q)
+            (other_value u o j (λ s. let y = same_true Γ u (on_type θ t) e s in cc))
 
         go :
             (z : Option Declaration) → declared p a_value x (lookup Γ p) ≡ z →
             if_there (Some x) z (λ d. if_same (Some x) 2 (same_form (normal_value Γ d) (normal_type Γ (on_type θ t)))) ≡ Some m →
             FirstLack Γ p (more c x (value (on_type θ t))) m
         go None i q =
-            subst (FirstLack Γ p (more c x (value (on_type θ t)))) (some_is q)
-            (absent o (λ h' h. let j = has_declared h in clash (cc)))
+            subst (FirstLack Γ p (more c x (value (on_type θ t)))) (same_Some _ _ q)
+            (absent o (λ h' h. let j = has_declared h in cc))
         go (Some h) i q = differs h (declared_has Γ p a_value x h i) (same_form (normal_value Γ h) (normal_type Γ (on_type θ t))) refl q
     lacks_one_first (nested s) Γ' Γ θ p g c x m e v k a l o q =
         go (lookup Γ (dot p x)) refl (lacks_first s Γ' Γ θ (dot p x) (Some x))
@@ -144,7 +139,7 @@ module _ (n : ℕ) (f : Env → Option Name → Signature → Signature → Opti
             lacks f Γ (dot p x) θ (Some x) s ≡ Some m → ModuleLacks Γ (dot p x) (Some x) h (on_signature θ s) m) →
             FirstLack Γ p (more c x (nested (on_signature θ s))) m
         go None i ih =
-            subst (FirstLack Γ p (more c x (nested (on_signature θ s)))) (some_is (missing s i ∙ q))
+            subst (FirstLack Γ p (more c x (nested (on_signature θ s)))) (same_Some _ _ (missing s i ∙ q))
             (absent o (λ h' h. nowhere h' h i))
           where
             missing : (s : Signature) → lookup Γ (dot p x) ≡ None → fails (Some x) 1 ≡ lacks f Γ (dot p x) θ (Some x) s
@@ -152,10 +147,10 @@ module _ (n : ℕ) (f : Env → Option Name → Signature → Signature → Opti
             missing (functor s r) i = sym (ap (λ o. if_there (Some x) o (λ g. f Γ (Some x) g (on_signature θ (functor s r)))) i)
 
             nowhere : (h' : Declaration) → Has Γ p a_module x h' → lookup Γ (dot p x) ≡ None → ⊥
-            nowhere abstract h i = let y = has_sort h in clash (cc)
-            nowhere (defined u) h i = let y = has_sort h in clash (cc)
-            nowhere (value u) h i = let y = has_sort h in clash (cc)
-            nowhere (nested u) h i = let y = at_lookup (Rattle.rules.proofs.Reflexive.has_at h) in clash (cc)
+            nowhere abstract h i = let y = has_sort h in cc
+            nowhere (defined u) h i = let y = has_sort h in cc
+            nowhere (value u) h i = let y = has_sort h in cc
+            nowhere (nested u) h i = let y = at_lookup (Rattle.rules.proofs.Reflexive.has_at h) in cc
         go (Some h) i ih =
             let at' = lookup_at Γ (dot p x) h i in
             let j = below_extent Γ p x g h a at' in
@@ -168,8 +163,8 @@ tells_to n Γ g s r = matches_tells n Γ g (functor s r)
 pub failure_first :
     (n : ℕ) (Γ : Env) (w : Option Name) (a b : Signature) (m : Mismatch) → SettledEnv Γ → Settled Γ a → Proper Γ b → extent a + extent b ≤ n →
     mismatch_to n Γ w a b ≡ Some m → FirstFailure Γ w a b m
-failure_first zero Γ w (structure g) b m e u v l q = let z : ⊥ = omega arith in absurd z
-failure_first zero Γ w (functor s r) b m e u v l q = let z : ⊥ = omega arith in absurd z
+failure_first zero Γ w (structure g) b m e u v l q = absurd (omega arith)
+failure_first zero Γ w (functor s r) b m e u v l q = absurd (omega arith)
 failure_first (suc n) Γ w (structure g) (structure c) m e u v l q =
     let Γ+ = extend Γ (structure g) in
     let i = extent_on out (structure g) in
@@ -180,8 +175,8 @@ failure_first (suc n) Γ w (structure g) (structure c) m e u v l q =
     (subst (λ z. FirstLack Γ+ innermost z m) (ap (λ θ. on_components θ c) under_fresh ∙ components_id c)
     (lacks_all_first n (mismatch_to n) (matches_to n) (mismatch_is n) (tells_to n) (λ Γ w g s r. failure_first n Γ w g (functor s r)) c Γ Γ+ out innermost
     (on_components (lift out) g) m (settled_extend Γ (structure g) e u) v (out_along Γ (structure g)) (head refl) l' q'))
-failure_first (suc n) Γ w (structure g) (functor s r) m e u v l q = subst (FirstFailure Γ w (structure g) (functor s r)) (some_is q) functor_wanted
-failure_first (suc n) Γ w (functor s r) (structure c) m e u v l q = subst (FirstFailure Γ w (functor s r) (structure c)) (some_is q) structure_wanted
+failure_first (suc n) Γ w (structure g) (functor s r) m e u v l q = subst (FirstFailure Γ w (structure g) (functor s r)) (same_Some _ _ q) functor_wanted
+failure_first (suc n) Γ w (functor s r) (structure c) m e u v l q = subst (FirstFailure Γ w (functor s r) (structure c)) (same_Some _ _ q) structure_wanted
 failure_first (suc n) Γ w (functor s r) (functor s' r') m e u v l q =
     let x = normalize_proper s' Γ e v.0 in
     let a = x.0 in
@@ -196,7 +191,7 @@ failure_first (suc n) Γ w (functor s r) (functor s' r') m e u v l q =
     (FirstFailure Γ w (functor s r) (functor s' r') m)
     (λ f. in_parameter a x.1 (failure_first n Γ w a s m e i.settled ps.0 l₁ f))
     (λ none' f.
-    let t = sym (mismatch_is n Γ w a s) ∙ none_is (mismatch_to n Γ w a s) none' in
+    let t = sym (mismatch_is n Γ w a s) ∙ ap is_none none' in
     let p = matches_tells n Γ a s e i.settled ps.0 t in
     let y = normalize_proper r (extend Γ a) e+ (proper_finer (extend Γ s) (extend Γ a) r (fits_along_fresh Γ a s p) ps.1) in
     let b = y.0 in

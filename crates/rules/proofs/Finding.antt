@@ -1,5 +1,5 @@
 -- Finding components, and that lookups and normal forms have one answer.
-use Rattle.std.proofs.Common.{◌≡◌, ℕ, ◌+◌, ◌≤◌, Bool, true, false, cond, ◌&&◌, ◌⊎◌, Some, None, Option, sym, refl, ap, ◌∙◌, subst, ap₂, inl, inr, arith}
+use Rattle.std.proofs.Common.{◌≡◌, ◌+◌, ◌≤◌, Bool, true, false, cond, ◌&&◌, ◌⊎◌, Some, None, Option, sym, refl, ap, ◌∙◌, subst, ap₂, inl, inr, arith}
 use Rattle.std.specs.Str.{bytes_eq}
 use Rattle.std.proofs.lemmas.Slice.Eq.{bytes_eq-Decides}
 use Rattle.types.specs.Types.{Name, ModulePath, Ty, label1, label2}
@@ -7,10 +7,6 @@ use Rattle.rules.specs.Signatures.{Sort, a_type, a_value, a_module, Signature, C
 use Rattle.rules.specs.Substitution.{Substitution, on_components, on_declaration}
 use Rattle.rules.specs.Lookup.{Env, At, head, inside, Has, Normal, opaque, unfolds, bare, part, parts}
 use Rattle.rules.proofs.Algebra.{find_on}
-
--- a clash of constructors proves anything
-pub clash : {A : Type 0} → ◌≡◌ {A = ℕ} 0 1 → A
-clash e = let z : ⊥ = omega arith in absurd z
 
 pub same_sort_self : (s : Sort) → same_sort s s ≡ true
 same_sort_self a_type = refl
@@ -52,8 +48,8 @@ find_cases c y e s x d = go (find s x c) (same_sort s (sort_of e)) refl (bytes_e
         (o ≡ Some d) ⊎ ((o ≡ None) × (e ≡ d) × (sort_of e ≡ s) × (y ≡ x))
     go (Some d') a p b q f = inl f
     go None true p true q f = inr (refl, cc, sym (same_sort_is s (sort_of e) p), sym ((bytes_eq-Decides x y).0 q))
-    go None true p false q f = clash (cc)
-    go None false p b q f = clash (cc)
+    go None true p false q f = cc
+    go None false p b q f = cc
 
 pub find_on_some : (θ : Substitution) (s : Sort) (x : Name) (c : Components) (d : Declaration) → find s x c ≡ Some d → find s x (on_components θ c) ≡ Some (on_declaration θ d)
 find_on_some θ s x c d f = find_on θ s x c ∙ ap (on_some (on_declaration θ)) f
@@ -68,10 +64,10 @@ find_off θ s x c d f = go (find s x c) refl (sym (find_on θ s x c) ∙ f)
   where
     go : (o : Option Declaration) → find s x c ≡ o → on_some (on_declaration θ) o ≡ Some d → (e : Declaration) × (find s x c ≡ Some e) × (on_declaration θ e ≡ d)
     go (Some e) p q = (e, p, cc)
-    go None p q = clash (cc)
+    go None p q = cc
 
 pub find_sort : (c : Components) (s : Sort) (x : Name) (d : Declaration) → find s x c ≡ Some d → sort_of d ≡ s
-find_sort empty s x d f = clash (cc)
+find_sort empty s x d f = cc
 find_sort (more c y e) s x d f = go (find_sort c s x d) (find_cases c y e s x d f)
   where
     go : (find s x c ≡ Some d → sort_of d ≡ s) → (find s x c ≡ Some d) ⊎ ((find s x c ≡ None) × (e ≡ d) × (sort_of e ≡ s) × (y ≡ x)) → sort_of d ≡ s
@@ -97,7 +93,7 @@ begins_before (onward b) = onward (begins_before b)
 
 -- what is found is no larger
 pub extent_found : (c : Components) (s : Sort) (x : Name) (d : Declaration) → find s x c ≡ Some d → extent_one d ≤ extent_all c
-extent_found empty s x d f = clash (cc)
+extent_found empty s x d f = cc
 extent_found (more c y e) s x d f = go (extent_found c s x d) (find_cases c y e s x d f)
   where
     go :

@@ -5,7 +5,7 @@ use Rattle.rules.specs.Signatures.{Sort, a_type, a_module, Signature, structure,
 use Rattle.rules.specs.Substitution.{Substitution, under, on_path, out, lift, reading, on_signature, on_components, on_declaration}
 use Rattle.rules.specs.Lookup.{Env, extend, At, head, inside, Has}
 use Rattle.rules.proofs.Algebra.{signature_reading_on, declaration_reading_on}
-use Rattle.rules.proofs.Finding.{clash, find_off}
+use Rattle.rules.proofs.Finding.{find_off}
 use Rattle.rules.proofs.Along.{was_some, was_nested, was_abstract}
 
 -- a path that begins at the innermost binder
@@ -30,7 +30,7 @@ fresh_under (fresh_dot {x = x} f) q θ σ = ap (λ z. dot z x) (fresh_under f q 
 
 pub was_structure : (θ : Substitution) (s : Signature) (c : Components) → on_signature θ s ≡ structure c → (b : Components) × (s ≡ structure b) × (on_components (lift θ) b ≡ c)
 was_structure θ (structure b) c e = (b, refl, cc)
-was_structure θ (functor s r) c e = clash (cc)
+was_structure θ (functor s r) c e = cc
 
 -- a path from outside leads where it led
 pub at_outside :

@@ -1,11 +1,12 @@
 -- The core's law at leaves: what a rule gives for types it gives for their normal forms in another environment.
-use Rattle.std.proofs.Common.{◌≡◌, ℕ, Bool, true, false, cond, ltb, ◌⊎◌, List, [], ◌∷◌, ◌++◌, map, sym, refl, ap, ◌∙◌, subst, ap₂, inl, inr}
+use Rattle.std.proofs.Common.{◌≡◌, ℕ, Bool, true, false, cond, ◌⊎◌, List, [], ◌∷◌, ◌++◌, map, sym, refl, ap, ◌∙◌, subst, ap₂, inl, inr}
 use Rattle.types.specs.Types.{Leaf, named, Ty, leaf, label0, label1, label2, replace, replace_opaque, same_leaf}
+use Rattle.types.proofs.Same.{same_equal, same_self}
 use Rattle.cores.specs.Meaning.{Outcome, gives, Stable}
 use Rattle.cores.specs.declared.interface.Operation.{Operation}
+use Rattle.cores.specs.Rules.{map_same, replace_paths}
 use Rattle.rules.specs.Lookup.{Env, Normal, opaque, unfolds, bare, part, parts}
-use Rattle.rules.proofs.Finding.{clash, normal_unique}
-use Rattle.rules.proofs.Equality.{same_leaf_is, same_leaf_self}
+use Rattle.rules.proofs.Finding.{normal_unique}
 
 -- a leaf with its normal form
 abbrev Entry : Env → Type 0
@@ -23,7 +24,7 @@ look_or Γ (e ∷ es) d l = go (same_leaf l e.0) refl (look_or Γ es d l)
     go :
         (b : Bool) → same_leaf l e.0 ≡ b → Normal Γ (leaf l) (look Γ es d l) ⊎ (look Γ es d l ≡ d) →
         Normal Γ (leaf l) (cond b e.1 (look Γ es d l)) ⊎ (cond b e.1 (look Γ es d l) ≡ d)
-    go true q ih = inl (subst (λ z. Normal Γ (leaf z) e.1) (sym (same_leaf_is l e.0 q)) e.2)
+    go true q ih = inl (subst (λ z. Normal Γ z e.1) (sym (same_equal (leaf l) (leaf e.0) q)) e.2)
     go false q ih = ih
 
 -- the leaf is in the table
@@ -38,9 +39,9 @@ in_look Γ (e ∷ es) d l i = go (same_leaf l e.0) refl i (in_look Γ es d l)
     go :
         (b : Bool) → same_leaf l e.0 ≡ b → (e.0 ≡ l) ⊎ In Γ es l → (In Γ es l → Normal Γ (leaf l) (look Γ es d l)) →
         Normal Γ (leaf l) (cond b e.1 (look Γ es d l))
-    go true q i ih = subst (λ z. Normal Γ (leaf z) e.1) (sym (same_leaf_is l e.0 q)) e.2
+    go true q i ih = subst (λ z. Normal Γ z e.1) (sym (same_equal (leaf l) (leaf e.0) q)) e.2
     go false q (inr i) ih = ih i
-    go false q (inl r) ih = let z : same_leaf l e.0 ≡ true = ap (same_leaf l) r ∙ same_leaf_self l in clash (cc)
+    go false q (inl r) ih = let z : same_leaf l e.0 ≡ true = ap (same_leaf l) r ∙ same_self (leaf l) in cc
 
 in_left : (Γ : Env) (es fs : List (Entry Γ)) (l : Leaf) → In Γ es l → In Γ (es ++ fs) l
 in_left Γ [] fs l i = absurd i
@@ -124,42 +125,18 @@ two_tables Γ es (leaf l) e = go (look_or Γ es (label0 0) l) (look_or Γ es (la
         Normal Γ (leaf l) (look Γ es (label0 0) l)
     go (inl m) o = m
     go (inr q) (inl m) = subst (Normal Γ (leaf l)) (sym e) m
-    go (inr q) (inr r) = clash (cc)
+    go (inr q) (inr r) = cc
 two_tables Γ es (label0 l) e = bare
 two_tables Γ es (label1 l t) e = part (two_tables Γ es t (cc))
 two_tables Γ es (label2 l t u) e = parts (two_tables Γ es t (cc)) (two_tables Γ es u (cc))
 
--- replacing leaves is a replacement of opaque parts
-opaque_is : (n : ℕ) (ρ : Leaf → Ty) (t : Ty) → replace_opaque n (replace ρ) t ≡ replace ρ t
-opaque_is n ρ (leaf x) = refl
-opaque_is n ρ (label0 l) = go (ltb l n)
-  where
-    go : (b : Bool) → cond b (label0 l) (label0 l) ≡ label0 l
-    go true = refl
-    go false = refl
-opaque_is n ρ (label1 l t) = go (ltb l n) (opaque_is n ρ t)
-  where
-    go : (b : Bool) → replace_opaque n (replace ρ) t ≡ replace ρ t → cond b (label1 l (replace_opaque n (replace ρ) t)) (label1 l (replace ρ t)) ≡ label1 l (replace ρ t)
-    go true ih = ap (label1 l) ih
-    go false ih = refl
-opaque_is n ρ (label2 l t u) = go (ltb l n) (opaque_is n ρ t) (opaque_is n ρ u)
-  where
-    go :
-        (b : Bool) → replace_opaque n (replace ρ) t ≡ replace ρ t → replace_opaque n (replace ρ) u ≡ replace ρ u →
-        cond b (label2 l (replace_opaque n (replace ρ) t) (replace_opaque n (replace ρ) u)) (label2 l (replace ρ t) (replace ρ u)) ≡ label2 l (replace ρ t) (replace ρ u)
-    go true i j = ap₂ (label2 l) i j
-    go false i j = refl
-
-map_is : {A B : Type 0} (f g : A → B) → ((a : A) → f a ≡ g a) → (l : List A) → map f l ≡ map g l
-map_is f g e [] = refl
-map_is f g e (a ∷ l) = ap₂ (λ x y. x ∷ y) (e a) (map_is f g e l)
-
+-- the law of cores for leaves
 pub leaf_law : {C : Type 0} (n : ℕ) (rule : Operation → List Ty → Outcome C) → Stable n rule → (ρ : Leaf → Ty) (o : Operation) (ts : List Ty) (t : Ty) → rule o ts ≡ gives t → rule o (map (replace ρ) ts) ≡ gives (replace ρ t)
 leaf_law n rule law ρ o ts t e =
-    ap (rule o) (sym (map_is (replace_opaque n (replace ρ)) (replace ρ) (opaque_is n ρ) ts))
-    ∙ (law (replace ρ) o ts t e ∙ ap gives (opaque_is n ρ t))
+    ap (rule o) (sym (map_same (replace_opaque n (replace ρ)) (replace ρ) (replace_paths n ρ) ts))
+    ∙ (law (replace ρ) o ts t e ∙ ap gives (replace_paths n ρ t))
 
-gives_is : {C : Type 0} (t u : Ty) → ◌≡◌ {A = Outcome C} (gives t) (gives u) → t ≡ u
+pub gives_is : {C : Type 0} (t u : Ty) → ◌≡◌ {A = Outcome C} (gives t) (gives u) → t ≡ u
 gives_is t u e = cc
 
 -- what the rule gives for types, it gives for their normal forms, in normal form

@@ -11,7 +11,6 @@ pub mod Reflexive
 pub mod Strengthened
 pub mod Converse
 pub mod Wording
-pub mod Equality
 pub mod Leaves
 pub mod Terms
 pub mod Derived

@@ -1,5 +1,6 @@
 -- The checker with faults says what the checker without them says, but for sizes.
 use Rattle.std.proofs.Common.{◌≡◌, ℕ, zero, suc, ◌+◌, Bool, true, false, cond, ◌&&◌, List, [], ◌∷◌, map, Some, None, Ok, Err, Option, Result, refl, ap, ◌∙◌, subst, ap₂}
+use Rattle.std.specs.Option.{is_none}
 use Rattle.types.specs.Types.{Name, Head, unit, ModulePath, at, dot, named, Ty, leaf, label0, label1, label2}
 use Rattle.cores.specs.Meaning.{Outcome, gives, refuses}
 use Rattle.cores.specs.declared.interface.Operation.{Operation}
@@ -15,7 +16,6 @@ use Rattle.rules.specs.Projects.{Units, no_units, more_units}
 use Rattle.rules.specs.Checker.{and_then, given, unless, declared, lookup, normal_type, normal_value, normalize, normalize_all, normalize_one, is_structure, same_form, offered, offered_all, offered_one, matches_to, does_match, accepted, term_type, term_types, apply, check, check_all, check_item, check_units, put}
 use Rattle.rules.specs.Sizes.{signature_size, components_size, small_type, small_signature, in_numbers}
 use Rattle.rules.specs.Faults.{Mismatch, Fault, too_large, no_functor, twice, no_way, next, must, must_not, within, run_type, run_signature, run_specs, run_spec, if_there, if_structure, if_same, lacks, lacks_all, lacks_one, if_normal, mismatch_to, mismatch, matched, told, ask, run_term, run_terms, run_path, run_apply, run_module, run_items, run_item, Known, one_more, run_unit, UnitFault, in_unit, run_units, run_fit, is_accepted, is_size, is_unit_size}
-use Rattle.rules.proofs.Finding.{clash}
 
 -- an answer with faults and one without: both accept the same, or both refuse, or a size is refused
 pub data Agrees {A C : Type 0} : Result A (Fault C) → Option A → Type 0 where
@@ -54,10 +54,6 @@ a_limited large b place = large
 a_must_not : {A B C : Type 0} (e : Fault C) (o : Option A) {r : Result B (Fault C)} {p : Option B} → Agrees r p → Agrees (must_not e o r) (unless o p)
 a_must_not e None k = k
 a_must_not e (Some a) k = refused
-
-abbrev pub is_none : {A : Type 0} → Option A → Bool
-is_none None = true
-is_none (Some a) = false
 
 a_matched : {A C : Type 0} (place : ℕ) (m : Option Mismatch) (b : Bool) {r : Result A (Fault C)} {o : Option A} → is_none m ≡ b → Agrees r o → Agrees (matched place m r) (cond b o None)
 a_matched {C = C} place None b {r} {o} e k = subst (λ z. Agrees r (cond z o None)) e k
@@ -269,38 +265,35 @@ module _ {C : Type 0} (rule : Operation → List Ty → Outcome C) where
       go large_unit = large_unit
 
 -- what follows where no size is refused
-some_is : {A : Type 0} {a b : A} → Some a ≡ Some b → a ≡ b
-some_is e = cc
-
 pub accepts_some : {A C : Type 0} {r : Result A (Fault C)} {o : Option A} → Agrees r o → is_accepted r ≡ true → (a : A) × (o ≡ Some a)
 accepts_some (taken {a = a}) e = (a, refl)
-accepts_some refused e = clash (cc)
-accepts_some large e = clash (cc)
+accepts_some refused e = cc
+accepts_some large e = cc
 
 pub some_accepts : {A C : Type 0} {r : Result A (Fault C)} {o : Option A} → Agrees r o → is_size r ≡ false → (a : A) → o ≡ Some a → is_accepted r ≡ true
 some_accepts taken q a e = refl
-some_accepts refused q a e = clash (cc)
-some_accepts large q a e = clash (cc)
+some_accepts refused q a e = cc
+some_accepts large q a e = cc
 
 pub ok_some : {A C : Type 0} {r : Result A (Fault C)} {o : Option A} → Agrees r o → (a : A) → r ≡ Ok a → o ≡ Some a
 ok_some (taken {a = b}) a e = let i : b ≡ a = cc in ap Some i
-ok_some refused a e = clash (cc)
-ok_some large a e = clash (cc)
+ok_some refused a e = cc
+ok_some large a e = cc
 
 pub units_accepted : {C : Type 0} {r : Result Known (UnitFault C)} {o : Option Env} → AgreesOnUnits r o → is_accepted r ≡ true → (Γ : Env) × (o ≡ Some Γ)
 units_accepted (known {w = w}) e = (w.signatures, refl)
-units_accepted unknowable e = clash (cc)
-units_accepted large_unit e = clash (cc)
+units_accepted unknowable e = cc
+units_accepted large_unit e = cc
 
 pub accepted_units : {C : Type 0} {r : Result Known (UnitFault C)} {o : Option Env} → AgreesOnUnits r o → is_unit_size r ≡ false → (Γ : Env) → o ≡ Some Γ → is_accepted r ≡ true
 accepted_units known q Γ e = refl
-accepted_units unknowable q Γ e = clash (cc)
-accepted_units large_unit q Γ e = clash (cc)
+accepted_units unknowable q Γ e = cc
+accepted_units large_unit q Γ e = cc
 
 pub units_known : {C : Type 0} {r : Result Known (UnitFault C)} {o : Option Env} → AgreesOnUnits r o → (w : Known) → r ≡ Ok w → o ≡ Some w.signatures
 units_known (known {w = v}) w e = let i : v ≡ w = cc in ap (λ z. Some z.signatures) i
-units_known unknowable w e = clash (cc)
-units_known large_unit w e = clash (cc)
+units_known unknowable w e = cc
+units_known large_unit w e = cc
 
 pub fit_agrees :
     {C : Type 0} (w : Known) (g : Signature) (t : SignatureText) →
@@ -312,13 +305,13 @@ fit_agrees w g t =
 
 -- a test of an answer is an answer that passes it
 pub given_some : (o : Option Signature) (b : Signature → Bool) → given o b ≡ true → (a : Signature) × (and_then o (λ a. cond (b a) (Some a) None) ≡ Some a)
-given_some None b e = clash (cc)
+given_some None b e = cc
 given_some (Some a) b e = (a, ap (λ z. cond z (Some a) None) e)
 
 pub some_given : (o : Option Signature) (b : Signature → Bool) (a : Signature) → and_then o (λ a. cond (b a) (Some a) None) ≡ Some a → given o b ≡ true
-some_given None b a e = clash (cc)
+some_given None b a e = cc
 some_given (Some c) b a e = go (b c) e
   where
     go : (z : Bool) → cond z (Some c) None ≡ Some a → z ≡ true
     go true q = refl
-    go false q = clash (cc)
+    go false q = cc

@@ -7,7 +7,7 @@ use Rattle.rules.specs.Substitution.{innermost}
 use Rattle.rules.specs.Lookup.{Env, extend, Normal, unfolds, opaque}
 use Rattle.rules.specs.Checker.{unless, normal_type, normalize, normalize_all, normalize_one}
 use Rattle.rules.proofs.Algebra.{declaration_id}
-use Rattle.rules.proofs.Finding.{clash, same_sort_self, same_bytes_self, normal_normal}
+use Rattle.rules.proofs.Finding.{same_sort_self, same_bytes_self, normal_normal}
 use Rattle.rules.proofs.Inner.{Fits, f_structure, f_functor, g_none, Proper, ProperAll, ProperOne}
 use Rattle.rules.proofs.Along.{was_some}
 use Rattle.rules.proofs.Exact.{fits_fresh}
@@ -30,14 +30,14 @@ none_before c s x y d = go (find s x c)
     go :
         (o : Option Declaration) → first_of o (cond (same_sort s (sort_of d) && bytes_eq x y) (Some d) None) ≡ None →
         (o ≡ None) × (sort_of d ≡ s → y ≡ x → ⊥)
-    go (Some b) e = clash (cc)
+    go (Some b) e = cc
     go None e = (
       refl,
       λ p q.
           let i : same_sort s (sort_of d) ≡ true = ap (same_sort s) p ∙ same_sort_self s in
           let j : bytes_eq x y ≡ true = ap (bytes_eq x) q ∙ same_bytes_self x in
           let k : Some d ≡ None = sym (ap₂ (λ a b. cond (a && b) (Some d) None) i j) ∙ e in
-          clash (cc),
+          (cc),
     )
 
 -- a signature and its normal form

@@ -1,6 +1,7 @@
 -- Row positions tell abstract types apart, so a rule that takes types by numbers takes them by paths.
 use Rattle.std.proofs.Common.{◌≡◌, ℕ, zero, ◌+◌, ◌≤◌, Bool, true, false, cond, ◌⊎◌, List, [], ◌∷◌, ◌++◌, map, Some, None, sym, refl, ap, ◌∙◌, ap₂, inl, inr, arith}
 use Rattle.types.specs.Types.{Name, Head, unit, binder, ModulePath, Leaf, named, numbered, Ty, leaf, label0, label1, label2, replace, same_leaf}
+use Rattle.types.proofs.Same.{same_equal, same_self}
 use Rattle.cores.specs.Meaning.{Outcome, gives, Stable}
 use Rattle.cores.specs.declared.interface.Operation.{Operation}
 use Rattle.rules.specs.Signatures.{a_type, Signature, abstract}
@@ -12,10 +13,9 @@ use Rattle.std.specs.Str.{bytes_eq}
 use Rattle.std.proofs.lemmas.Slice.Eq.{bytes_eq-Decides}
 use Rattle.rules.specs.Sizes.{signature_size, by_number, in_numbers, Laid, AllNormal, none_normal, more_normal}
 use Rattle.rules.proofs.Algebra.{under_outward}
-use Rattle.rules.proofs.Finding.{clash, same_bytes_self}
+use Rattle.rules.proofs.Finding.{same_bytes_self}
 use Rattle.rules.proofs.Project.{unit_cases}
 use Rattle.rules.proofs.Along.{extend_cases}
-use Rattle.rules.proofs.Equality.{same_leaf_is, same_leaf_self}
 use Rattle.rules.proofs.Leaves.{leaf_law}
 use Rattle.rules.proofs.Positions.{signature_size_on, position, position_one}
 
@@ -77,10 +77,13 @@ module _ (from : Head → ℕ) (Γ : Env) (k : ℕ) (laid : Laid from Γ k) wher
       go :
           (b : Bool) → same_leaf (number l) (number m) ≡ b → (m ≡ l) ⊎ Among ms l → (Among ms l → back ms (number l) ≡ leaf l) →
           cond b (leaf m) (back ms (number l)) ≡ leaf l
-      go true q i ih = ap leaf (sym (number_one l m a u.0 (same_leaf_is (number l) (number m) q)))
+      go true q i ih =
+          let e = same_equal (leaf (number l)) (leaf (number m)) q in
+          let o : number l ≡ number m = cc in
+          ap leaf (sym (number_one l m a u.0 o))
       go false q (inr i) ih = ih i
       go false q (inl r) ih =
-          let z : same_leaf (number l) (number m) ≡ true = ap (λ o. same_leaf (number l) (number o)) r ∙ same_leaf_self (number l) in clash (cc)
+          let z : same_leaf (number l) (number m) ≡ true = ap (λ o. same_leaf (number l) (number o)) r ∙ same_self (leaf (number l)) in cc
 
   -- the leaves of a type
   abbrev leaves : Ty → List Leaf
@@ -207,7 +210,7 @@ laid_extend from Γ k b s i w = record {
         inr (inr (omega arith))
 
 pub laid_none : (from : Head → ℕ) (k : ℕ) → Laid from unknown k
-laid_none from k = record { before = λ h s q. clash (cc); apart = λ h i s t p q. clash (cc) }
+laid_none from k = record { before = λ h s q. (cc); apart = λ h i s t p q. (cc) }
 
 standing_here : (x : Name) (k : ℕ) (from : Head → ℕ) → standing x k from (unit x) ≡ k
 standing_here x k from = ap (λ b. cond b k (from (unit x))) (same_bytes_self x)
@@ -219,7 +222,7 @@ standing_kept x k from Γ f (unit y) s q = go (bytes_eq x y) refl
     go true i =
         let e = (bytes_eq-Decides x y).0 i in
         let j : Γ (unit x) ≡ Some s = ap (λ z. Γ (unit z)) e ∙ q in
-        clash (cc)
+        cc
     go false i = refl
 standing_kept x k from Γ f (binder n) s q = refl
 

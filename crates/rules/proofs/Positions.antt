@@ -7,7 +7,7 @@ use Rattle.rules.specs.Lookup.{Env, At, head, inside, Has}
 use Rattle.rules.specs.Checker.{lookup}
 use Rattle.rules.specs.Sizes.{signature_size, components_size, declaration_size, found_or, offset, offset_in, stands_at, Laid}
 use Rattle.rules.proofs.Algebra.{after, find_on, signature_comp, signature_id}
-use Rattle.rules.proofs.Finding.{clash, find_cases, find_off}
+use Rattle.rules.proofs.Finding.{find_cases, find_off}
 use Rattle.rules.proofs.Along.{was_nested}
 use Rattle.rules.proofs.Fresh.{was_structure}
 use Rattle.rules.proofs.Settling.{at_lookup}
@@ -54,7 +54,7 @@ offset_last c y e s x f = ap (λ o. found_or o (offset s x c) (components_size c
 
 -- a component stands within its structure
 found_bound : (c : Components) (s : Sort) (x : Name) (d : Declaration) → find s x c ≡ Some d → offset s x c + suc (declaration_size d) ≤ components_size c
-found_bound empty s x d f = clash (cc)
+found_bound empty s x d f = cc
 found_bound (more c y e) s x d f = go (found_bound c s x d) (find_cases c y e s x d f)
   where
     go :
@@ -70,7 +70,7 @@ Apart c s x d t y e =
     ((s ≡ t) × (x ≡ y)) ⊎ ((offset s x c + suc (declaration_size d) ≤ offset t y c) ⊎ (offset t y c + suc (declaration_size e) ≤ offset s x c))
 
 components_apart : (c : Components) (s : Sort) (x : Name) (d : Declaration) (t : Sort) (y : Name) (e : Declaration) → find s x c ≡ Some d → find t y c ≡ Some e → Apart c s x d t y e
-components_apart empty s x d t y e f g = clash (cc)
+components_apart empty s x d t y e f g = cc
 components_apart (more c z b) s x d t y e f g = go (components_apart c s x d t y e) (find_cases c z b s x d f) (find_cases c z b t y e g)
   where
     go :
@@ -137,7 +137,7 @@ type_or_module :
 type_or_module a x d z m f g r l i = go (components_apart a a_type x d a_module z (nested m) f g)
   where
     go : Apart a a_type x d a_module z (nested m) → ⊥
-    go (inl v) = let u = v.0 in clash (cc)
+    go (inl v) = let u = v.0 in cc
     go (inr (inl o)) = omega arith
     go (inr (inr o)) = omega arith
 
@@ -148,16 +148,16 @@ one_module a x d y e f g r q l k i = go (components_apart a a_module x (nested d
   where
     go : Apart a a_module x (nested d) a_module y (nested e) → x ≡ y
     go (inl v) = v.1
-    go (inr (inl o)) = let z : ⊥ = omega arith in absurd z
-    go (inr (inr o)) = let z : ⊥ = omega arith in absurd z
+    go (inr (inl o)) = absurd (omega arith)
+    go (inr (inr o)) = absurd (omega arith)
 
 one_type : (a : Components) (x : Name) (d : Declaration) (y : Name) (e : Declaration) → find a_type x a ≡ Some d → find a_type y a ≡ Some e → offset a_type x a ≡ offset a_type y a → x ≡ y
 one_type a x d y e f g i = go (components_apart a a_type x d a_type y e f g)
   where
     go : Apart a a_type x d a_type y e → x ≡ y
     go (inl v) = v.1
-    go (inr (inl o)) = let z : ⊥ = omega arith in absurd z
-    go (inr (inr o)) = let z : ⊥ = omega arith in absurd z
+    go (inr (inl o)) = absurd (omega arith)
+    go (inr (inr o)) = absurd (omega arith)
 
 -- where a type stands by a walk tells the walk and the name
 walk_apart :
@@ -322,5 +322,5 @@ position_one from Γ k laid p x d q y e h g i =
             let r : a.way.behind + offset a_type x a.inner ≡ b.way.behind + offset a_type y b.inner = omega arith in
             let w = walk_apart a.way.walk b.way.walk roots a.inner b.inner a.shape b.shape x y a.declaration b.declaration a.found b.found r in
             (sym a.way.spelled ∙ (ap₂ (λ h l. path_from (at h) l) o w.0 ∙ b.way.spelled), w.1)
-        decide (inr (inl l)) = let la' = la in let pa' = pa in let pb' = pb in let z : ⊥ = omega arith in absurd z
-        decide (inr (inr l)) = let lb' = lb in let pa' = pa in let pb' = pb in let z : ⊥ = omega arith in absurd z
+        decide (inr (inl l)) = let la' = la in let pa' = pa in let pb' = pb in absurd (omega arith)
+        decide (inr (inr l)) = let lb' = lb in let pa' = pa in let pb' = pb in absurd (omega arith)

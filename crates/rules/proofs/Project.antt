@@ -13,7 +13,7 @@ use Rattle.rules.specs.Rules.{Derives, by_path, by_items, by_functor, by_applica
 use Rattle.rules.specs.Environments.{unknown, with_unit, Built, nothing_yet, a_unit, a_binder}
 use Rattle.rules.specs.Projects.{Units, Loads, start, next}
 use Rattle.rules.proofs.Algebra.{signature_id}
-use Rattle.rules.proofs.Finding.{clash, same_bytes_self}
+use Rattle.rules.proofs.Finding.{same_bytes_self}
 use Rattle.rules.proofs.Inner.{Fits, Proper, ProperEnv}
 use Rattle.rules.proofs.Transitive.{Knows, knows_gives}
 use Rattle.rules.proofs.Knowing.{Along, knows_at, knows_along, at_fits, fits_finer}
@@ -46,7 +46,7 @@ unit_kept x s Γ f (unit y) t e = go (bytes_eq x y) refl
     go true q =
         let i = (bytes_eq-Decides x y).0 q in
         let j : Γ (unit x) ≡ Some t = ap (λ z. Γ (unit z)) i ∙ e in
-        clash (cc)
+        cc
     go false q = e
 unit_kept x s Γ f (binder n) t e = e
 
@@ -60,7 +60,7 @@ unit_proper x s Γ f e w =
     (λ h t i. proper_finer Γ (with_unit x s Γ) t (unit_along x s Γ f) (e h t i))
 
 pub none_proper : ProperEnv unknown
-none_proper h s e = clash (cc)
+none_proper h s e = cc
 
 pub built_proper : {Γ : Env} → Built Γ → ProperEnv Γ
 built_proper nothing_yet = none_proper
@@ -85,7 +85,7 @@ pub none_kept : (x : Name) (s' s : Signature) (Γ' Γ : Env) → ((h : Head) →
 none_kept x s' s Γ' Γ o (unit y) = go (bytes_eq x y)
   where
     go : (b : Bool) → cond b (Some s') (Γ' (unit y)) ≡ None → cond b (Some s) (Γ (unit y)) ≡ None
-    go true e = clash (cc)
+    go true e = cc
     go false e = o (unit y) e
 none_kept x s' s Γ' Γ o (binder n) = o (binder n)
 
@@ -125,7 +125,7 @@ module _ {C : Type 0} (n : ℕ) (rule : Operation → List Ty → Outcome C) (la
   pub loads_principal :
       {free : Bool} {us : Units} {Γ' : Env} → Loads rule free us Γ' →
       (Γ : Env) × Loads rule false us Γ × Along at Γ' Γ × ((h : Head) → Γ' h ≡ None → Γ h ≡ None)
-  loads_principal start = (unknown, start, (λ h s e. clash (cc)), (λ h e. e))
+  loads_principal start = (unknown, start, (λ h s e. cc), (λ h e. e))
   loads_principal (next {u = u} {Γ = Γ'} s' l' f' d') =
       let w = loads_principal l' in
       let Γ = w.0 in

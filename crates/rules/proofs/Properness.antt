@@ -5,7 +5,7 @@ use Rattle.rules.specs.Signatures.{Sort, a_type, a_module, Signature, structure,
 use Rattle.rules.specs.Substitution.{Substitution, out, lift, reading, on_signature, on_components, on_declaration}
 use Rattle.rules.specs.Lookup.{Env, extend, At, head, inside, Has, opaque, unfolds}
 use Rattle.rules.proofs.Algebra.{signature_id, sort_on}
-use Rattle.rules.proofs.Finding.{clash, find_on_none, find_cases, find_sort, Begins, all, onward}
+use Rattle.rules.proofs.Finding.{find_on_none, find_cases, find_sort, Begins, all, onward}
 use Rattle.rules.proofs.Inner.{Typed, Proper, ProperAll, ProperOne, ProperEnv}
 use Rattle.rules.proofs.Along.{extend_cases, typed_along}
 use Rattle.rules.proofs.Exact.{longer}
@@ -46,7 +46,7 @@ proper_extend Γ s e w =
 pub proper_found :
     (Γ : Env) (c : Components) → ProperAll Γ c → (s : Sort) (x : Name) (d : Declaration) → find s x c ≡ Some d →
     (b : Components) × Begins b c × ProperOne (extend Γ (structure b)) d
-proper_found Γ empty w s x d f = clash (cc)
+proper_found Γ empty w s x d f = cc
 proper_found Γ (more c y e) w s x d f = go (proper_found Γ c w.0 s x d) (find_cases c y e s x d f)
   where
     go :
@@ -83,5 +83,5 @@ has_sort {Γ} {p} {s} {x} {d} h =
 pub has_typed : (Γ : Env) (p : ModulePath) (x : Name) (d : Declaration) → ProperEnv Γ → Has Γ p a_type x d → Typed Γ (leaf (named p x))
 has_typed Γ p x abstract e h = (leaf (named p x), opaque h)
 has_typed Γ p x (defined t) e h = let w = proper_has e h in (w.0, unfolds t h w.1)
-has_typed Γ p x (value t) e h = let q = has_sort h in clash (cc)
-has_typed Γ p x (nested s) e h = let q = has_sort h in clash (cc)
+has_typed Γ p x (value t) e h = let q = has_sort h in cc
+has_typed Γ p x (nested s) e h = let q = has_sort h in cc

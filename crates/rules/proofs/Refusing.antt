@@ -1,5 +1,6 @@
 -- A fault tells a question that the text asks and that is answered no.
 use Rattle.std.proofs.Common.{◌≡◌, ℕ, zero, suc, ◌+◌, Bool, true, false, List, [], ◌∷◌, map, Some, None, Ok, Err, Option, Result, sym, refl, ap, ◌∙◌, subst, le_refl, arith}
+use Rattle.std.specs.Option.{is_none}
 use Rattle.types.specs.Types.{Name, Head, ModulePath, named, Ty, leaf, label0, label1, label2}
 use Rattle.cores.specs.Meaning.{Outcome, gives, refuses, Stable}
 use Rattle.cores.specs.declared.interface.Operation.{Operation}
@@ -15,7 +16,6 @@ use Rattle.rules.specs.Sizes.{signature_size, components_size, small_type, small
 use Rattle.rules.specs.Rules.{TermHas, TermsHave, none_have, more_have}
 use Rattle.rules.specs.Faults.{Mismatch, Fault, no_way, refused_types, no_functor, no_match, too_large, twice, next, must, must_not, within, run_type, run_signature, run_specs, run_spec, mismatch, matched, told, ask, run_term, run_terms, run_path, run_apply, run_module, run_items, run_item}
 use Rattle.rules.specs.Refusals.{Question, to_type, to_value, to_module, to_variable, of_core, of_functor, of_match, of_type, of_signature, of_name, No, no_type, no_value, no_module, no_variable, core_refuses, applied_structure, fails_first, type_over, signature_over, declared_before, TypeAsks, path, path_size, plain_size, part, part_size, first, second, parts_size, SignatureAsks, specs, specs_size, parameter, result, functor_text_size, SpecsAsk, spec_before, spec_new, spec_last, SpecAsks, in_defined, in_value, in_module, TermAsks, ask_variable, ask_value, ask_literal, literal_size, in_arguments, ask_operator, operator_size, in_parameter, in_body, ask_function, function_size, TermsAsk, in_first, in_later, PathAsks, ask_module, module_size, ModuleAsks, of_path, in_items, struct_size, in_parameter_signature, in_functor_body, functor_size, in_applied, in_argument, ask_functor, argument_matches, result_size, in_ascribed, in_signature, module_matches, ItemsAsk, item_before, item_new, item_last, ItemAsks, in_type_item, in_let_item, in_module_item}
-use Rattle.rules.proofs.Finding.{clash}
 use Rattle.rules.proofs.Inner.{Fits, Gives, Proper}
 use Rattle.rules.proofs.Transitive.{knows_gives, fits_trans}
 use Rattle.rules.proofs.Knowing.{reading_along, id_along}
@@ -26,7 +26,7 @@ use Rattle.rules.proofs.Settling.{Settled, SettledEnv, settled_proper, settled_e
 use Rattle.rules.proofs.Normalizing.{NormalOf, normalize_is, normalize_proper, normalize_all_is}
 use Rattle.rules.proofs.Deciding.{match_tells}
 use Rattle.rules.proofs.Checking.{check_checks, check_all_checks, type_has, types_have}
-use Rattle.rules.proofs.Mirror.{is_none, mismatch_is, type_agrees, signature_agrees, specs_agree, module_agrees, items_agree, term_agrees, terms_agree, ok_some}
+use Rattle.rules.proofs.Mirror.{mismatch_is, type_agrees, signature_agrees, specs_agree, module_agrees, items_agree, term_agrees, terms_agree, ok_some}
 use Rattle.rules.proofs.Failing.{failure_first}
 use Rattle.rules.proofs.Numbering.{numbers_give, laid_later, laid_extend}
 
@@ -39,14 +39,11 @@ next_err (Err x) f e q P l k = let i : x ≡ e = cc in l (ap Err i)
 
 must_err : {A E : Type 0} (x : E) (o : Option A) (e : E) → must x o ≡ Err e → (o ≡ None) × (x ≡ e)
 must_err x None e q = (refl, cc)
-must_err x (Some a) e q = clash (cc)
+must_err x (Some a) e q = cc
 
 within_err : {A E : Type 0} (b : Bool) (x : E) (a : A) (e : E) → within b x a ≡ Err e → (b ≡ false) × (x ≡ e)
-within_err true x a e q = clash (cc)
+within_err true x a e q = cc
 within_err false x a e q = (refl, cc)
-
-ok_err : {A E : Type 0} {a : A} {e : E} {P : Type 0} → ◌≡◌ {A = Result A E} (Ok a) (Err e) → P
-ok_err q = clash (cc)
 
 must_not_err :
     {A B E : Type 0} (x : E) (o : Option A) (r : Result B E) (e : E) → must_not x o r ≡ Err e → (P : Type 0) →
@@ -62,10 +59,10 @@ matched_err place (Some m) r e q P l k = l m refl (cc)
 
 -- a normal form that is missing
 put_none : (p : ModulePath) (x : Name) (o : Option Declaration) → put p x o ≡ None → (d : Declaration) → o ≡ Some d → sort_of d ≡ a_type → ⊥
-put_none p x o q abstract e s = clash (cc)
-put_none p x o q (defined t) e s = clash (cc)
-put_none p x o q (value t) e s = clash (cc)
-put_none p x o q (nested t) e s = clash (cc)
+put_none p x o q abstract e s = cc
+put_none p x o q (defined t) e s = cc
+put_none p x o q (value t) e s = cc
+put_none p x o q (nested t) e s = cc
 
 module _ {C : Type 0} (n : ℕ) (rule : Operation → List Ty → Outcome C) (law : Stable n rule) where
   -- the answer for a kind of text
@@ -98,7 +95,7 @@ module _ {C : Type 0} (n : ℕ) (rule : Operation → List Ty → Outcome C) (la
       (λ a r s. type_size place a f (path_size a (some_of place (normal_type Γ (leaf (named p x))) a r)) s)
     where
       some_of : (place : ℕ) (o : Option Ty) (a : Ty) → must {E = Fault C} (no_way place) o ≡ Ok a → o ≡ Some a
-      some_of place None a r = clash (cc)
+      some_of place None a r = cc
       some_of place (Some b) a r = cc
   type_told (label_text0 place l) Γ f e q = type_size place (label0 l) f plain_size q
   type_told (label_text1 place l t) Γ f e q =
@@ -137,7 +134,7 @@ module _ {C : Type 0} (n : ℕ) (rule : Operation → List Ty → Outcome C) (la
         (λ b r' u'. signature_size_lem place (functor a b) f (functor_text_size a b r r') u'))
 
     specs_told : (c : SpecTexts) (Γ : Env) (f : Fault C) → SettledEnv Γ → run_specs Γ c ≡ Err f → Told (SpecsAsk C Γ c) f
-    specs_told no_specs Γ f e q = ok_err q
+    specs_told no_specs Γ f e q = cc
     specs_told (more_specs c x d) Γ f e q =
         next_err (run_specs Γ c)
         (λ b. must_not (twice x) (find (sort_of (declaration_of d)) x (components_of c)) (next (run_spec (extend Γ (structure b)) d) (λ y. Ok (more b x y)))) f q
@@ -154,16 +151,16 @@ module _ {C : Type 0} (n : ℕ) (rule : Operation → List Ty → Outcome C) (la
         (λ s'.
         next_err (run_spec (extend Γ (structure b)) d) (λ y. Ok (more b x y)) f s' (Told (SpecsAsk C Γ (more_specs c x d)) f)
         (λ r'. map_told (λ q. spec_last b r) (spec_told d (extend Γ (structure b)) f (specs_settled c Γ b e r) r'))
-        (λ y r' s''. ok_err s'')))
+        (λ y r' s''. cc)))
 
     spec_told : (d : SpecText) (Γ : Env) (f : Fault C) → SettledEnv Γ → run_spec Γ d ≡ Err f → Told (SpecAsks C Γ d) f
-    spec_told abstract_spec Γ f e q = ok_err q
+    spec_told abstract_spec Γ f e q = cc
     spec_told (defined_spec t) Γ f e q =
-        next_err (run_type Γ t) (λ n. Ok (defined n)) f q (Told (SpecAsks C Γ (defined_spec t)) f) (λ r. map_told (λ q. in_defined) (type_told t Γ f e r)) (λ a r s. ok_err s)
+        next_err (run_type Γ t) (λ n. Ok (defined n)) f q (Told (SpecAsks C Γ (defined_spec t)) f) (λ r. map_told (λ q. in_defined) (type_told t Γ f e r)) (λ a r s. cc)
     spec_told (value_spec t) Γ f e q =
-        next_err (run_type Γ t) (λ n. Ok (value n)) f q (Told (SpecAsks C Γ (value_spec t)) f) (λ r. map_told (λ q. in_value) (type_told t Γ f e r)) (λ a r s. ok_err s)
+        next_err (run_type Γ t) (λ n. Ok (value n)) f q (Told (SpecAsks C Γ (value_spec t)) f) (λ r. map_told (λ q. in_value) (type_told t Γ f e r)) (λ a r s. cc)
     spec_told (module_spec s) Γ f e q =
-        next_err (run_signature Γ s) (λ a. Ok (nested a)) f q (Told (SpecAsks C Γ (module_spec s)) f) (λ r. map_told (λ q. in_module) (signature_told s Γ f e r)) (λ a r s. ok_err s)
+        next_err (run_signature Γ s) (λ a. Ok (nested a)) f q (Told (SpecAsks C Γ (module_spec s)) f) (λ r. map_told (λ q. in_module) (signature_told s Γ f e r)) (λ a r s. cc)
 
   -- the type of a term is its own normal form
   has_normal : (Γ : Env) (Δ : List Ty) (t : Term) (u : Ty) → TermHas rule Γ Δ t u → Normal Γ u u
@@ -186,14 +183,14 @@ module _ {C : Type 0} (n : ℕ) (rule : Operation → List Ty → Outcome C) (la
     where
       go :
           (a : Outcome C) → rule o ns ≡ a → (b : Outcome C) → rule o (map numbers ns) ≡ b → told place a b ≡ Err f → No rule (of_core place o ns (map numbers ns)) f
-      go (gives t) i b j q = ok_err q
-      go (refuses c) i (gives t) j q = let v = x o ns w t j in let k = v.1 in clash (cc)
+      go (gives t) i b j q = cc
+      go (refuses c) i (gives t) j q = let v = x o ns w t j in let k = v.1 in cc
       go (refuses c) i (refuses y) j q = let k : refused_types place y ≡ f = cc in subst (No rule (of_core place o ns (map numbers ns))) k (core_refuses c y i j)
 
   told_ok : (place : ℕ) (a b : Outcome C) (t : Ty) → told place a b ≡ Ok t → a ≡ gives t
   told_ok place (gives u) b t q = cc
-  told_ok place (refuses c) (gives u) t q = clash (cc)
-  told_ok place (refuses c) (refuses x) t q = clash (cc)
+  told_ok place (refuses c) (gives u) t q = cc
+  told_ok place (refuses c) (refuses x) t q = cc
 
   ask_told :
       {A : Question → Type 0} (numbers : Ty → Ty) (Γ : Env) → Exact numbers Γ → (place : ℕ) (o : Operation) (ns : List Ty) (f : Fault C) → AllNormal Γ ns → A (of_core place o ns (map numbers ns)) →
@@ -221,7 +218,7 @@ module _ {C : Type 0} (n : ℕ) (rule : Operation → List Ty → Outcome C) (la
       where
         go : (o : Option Ty) → pick Δ k ≡ o → and_then o (normal_type Γ) ≡ None → pick Δ k ≡ None
         go None i r = i
-        go (Some t) i r = let v = l k t i in let j = v.1 in clash (cc)
+        go (Some t) i r = let v = l k t i in let j = v.1 in cc
     term_told (component place p x) numbers Γ Δ f e z l q =
         let w = must_err (no_way place) (and_then (declared p a_value x (lookup Γ p)) (normal_value Γ)) f q in (
           to_value Γ place p x,
@@ -230,7 +227,7 @@ module _ {C : Type 0} (n : ℕ) (rule : Operation → List Ty → Outcome C) (la
               (no_value (λ t h.
               let i = then_is (declared p a_value x (lookup Γ p)) (normal_value Γ) (value t) t (has_declared h) (type_normal e (settled_has e h)) in
               let j = w.0 in
-              clash (cc))),
+              (cc))),
         )
     term_told (integer place) numbers Γ Δ f e z l q = ask_told numbers Γ z place Literal [] f none_normal ask_literal (λ t i. literal_size t i) q
     term_told (operation place k ts) numbers Γ Δ f e z l q =
@@ -253,18 +250,18 @@ module _ {C : Type 0} (n : ℕ) (rule : Operation → List Ty → Outcome C) (la
     terms_told :
         (ts : Terms) (numbers : Ty → Ty) (Γ : Env) (Δ : List Ty) (f : Fault C) → SettledEnv Γ → Exact numbers Γ → Listed Γ Δ → run_terms rule numbers Γ Δ ts ≡ Err f →
         Told (TermsAsk rule numbers Γ Δ ts) f
-    terms_told no_terms numbers Γ Δ f e z l q = ok_err q
+    terms_told no_terms numbers Γ Δ f e z l q = cc
     terms_told (more_terms t ts) numbers Γ Δ f e z l q =
         next_err (run_term rule numbers Γ Δ t) (λ n. next (run_terms rule numbers Γ Δ ts) (λ ns. Ok (n ∷ ns))) f q (Told (TermsAsk rule numbers Γ Δ (more_terms t ts)) f)
         (λ r. map_told (λ q. in_first) (term_told t numbers Γ Δ f e z l r))
         (λ n r s.
         next_err (run_terms rule numbers Γ Δ ts) (λ ns. Ok (n ∷ ns)) f s (Told (TermsAsk rule numbers Γ Δ (more_terms t ts)) f)
         (λ r'. map_told (λ q. in_later n r) (terms_told ts numbers Γ Δ f e z l r'))
-        (λ ns r' s'. ok_err s'))
+        (λ ns r' s'. cc))
 
   -- module paths
   must_ok : {A : Type 0} (x : Fault C) (o : Option A) (a : A) → must x o ≡ Ok a → o ≡ Some a
-  must_ok x None a q = clash (cc)
+  must_ok x None a q = cc
   must_ok x (Some b) a q = cc
 
   path_parts : (Γ : Env) (p : ModulePath) (a : Signature) → and_then (lookup Γ p) (λ s. normalize Γ (strengthen p s)) ≡ Some a → (s : Signature) × At Γ p s × (normalize Γ (strengthen p s) ≡ Some a)
@@ -276,7 +273,7 @@ module _ {C : Type 0} (n : ℕ) (rule : Operation → List Ty → Outcome C) (la
       let ps = proper_at (settled_env_proper Γ e) a in
       let w = normalize_proper (strengthen p s) Γ e (proper_strengthen Γ p s ps a) in
       let i = then_is (lookup Γ p) (λ s. normalize Γ (strengthen p s)) s w.0 (at_lookup a) w.1 in
-      clash (cc)
+      cc
 
   path_told : (Γ : Env) (place : ℕ) (p : ModulePath) (f : Fault C) → SettledEnv Γ → run_path Γ place p ≡ Err f → Told (PathAsks Γ place p) f
   path_told Γ place p f e q =
@@ -306,9 +303,6 @@ module _ {C : Type 0} (n : ℕ) (rule : Operation → List Ty → Outcome C) (la
   items_settled : (is : Items) (from : Head → ℕ) (Γ : Env) (k : ℕ) (c : Components) → SettledEnv Γ → run_items rule from Γ k is ≡ Ok c → SettledEnv (extend Γ (structure c))
   items_settled is from Γ k c e r = settled_extend Γ (structure c) e (check_all_checks n rule law is Γ c e (ok_some (items_agree rule is from Γ k) c r)).settled
 
-  none_true : {A : Type 0} (o : Option A) → o ≡ None → is_none o ≡ true
-  none_true o i = ap is_none i
-
   apply_told :
       (from : Head → ℕ) (Γ : Env) (k place argument : ℕ) (m : Module) (p : ModulePath) (b g : Signature) (f : Fault C) → SettledEnv Γ →
       run_module rule from Γ k m ≡ Ok g → run_path {C = C} Γ argument p ≡ Ok b → run_apply Γ place argument p b g ≡ Err f →
@@ -328,24 +322,24 @@ module _ {C : Type 0} (n : ℕ) (rule : Operation → List Ty → Outcome C) (la
       (Told (ModuleAsks rule from Γ k (applied place m argument p)) f)
       (λ x i l. match_told Γ argument b s f e j.settled pu.0 (argument_matches s t b r r') x i l)
       (λ i q'.
-      let m₁ : Fits Γ b s = match_tells Γ b s e j.settled pu.0 (sym (mismatch_is (extent b + extent s) Γ None b s) ∙ none_true (mismatch Γ b s) i) in
+      let m₁ : Fits Γ b s = match_tells Γ b s e j.settled pu.0 (sym (mismatch_is (extent b + extent s) Γ None b s) ∙ ap is_none i) in
       let g : Gives Γ p s = strengthened_gives Γ p w.0 s ps w.1 (fits_trans j.forth m₁) in
       let y = normalize_proper (on_signature (reading p) t) Γ e (proper_along t (extend Γ s) Γ (reading p) (reading_along Γ p s (knows_gives g)) pu.1) in
       next_err (must (no_way place) (normalize Γ (on_signature (reading p) t))) (λ n. within (small_signature n) (too_large place) n) f q'
       (Told (ModuleAsks rule from Γ k (applied place m argument p)) f)
-      (λ z. let v = must_err (no_way place) (normalize Γ (on_signature (reading p) t)) f z in let v₀ = v.0 in let y₁ = y.1 in clash (cc))
+      (λ z. let v = must_err (no_way place) (normalize Γ (on_signature (reading p) t)) f z in let v₀ = v.0 in let y₁ = y.1 in cc)
       (λ a z s'. signature_size_lem place a f (result_size s t a r (must_ok (no_way place) (normalize Γ (on_signature (reading p) t)) a z)) s'))
     where
       path_ok : (Γ : Env) (place : ℕ) (p : ModulePath) (b : Signature) → run_path {C = C} Γ place p ≡ Ok b → and_then (lookup Γ p) (λ s. normalize Γ (strengthen p s)) ≡ Some b
       path_ok Γ place p b = go (and_then (lookup Γ p) (λ s. normalize Γ (strengthen p s)))
         where
           go : (o : Option Signature) → next (must {E = Fault C} (no_way place) o) (λ n. within (small_signature n) (too_large place) n) ≡ Ok b → o ≡ Some b
-          go None r = clash (cc)
+          go None r = cc
           go (Some a) r = small (small_signature a) r
             where
               small : (z : Bool) → within {E = Fault C} z (too_large place) a ≡ Ok b → Some a ≡ Some b
               small true r = cc
-              small false r = clash (cc)
+              small false r = cc
 
   mutual
     pub module_told :
@@ -385,11 +379,11 @@ module _ {C : Type 0} (n : ℕ) (rule : Operation → List Ty → Outcome C) (la
         (λ a r' s'.
         matched_err inner (mismatch Γ g a) (Ok a) f s' (Told (ModuleAsks rule from Γ k (ascribed place inner m t)) f)
         (λ x i l. match_told Γ inner g a f e (module_settled m from Γ k g e r) (settled_proper a Γ (signature_settled t Γ a e r').settled) (module_matches g a r r') x i l)
-        (λ i z. ok_err z)))
+        (λ i z. cc)))
 
     items_told :
         (is : Items) (from : Head → ℕ) (Γ : Env) (k : ℕ) (f : Fault C) → SettledEnv Γ → Laid from Γ k → run_items rule from Γ k is ≡ Err f → Told (ItemsAsk rule from Γ k is) f
-    items_told no_items from Γ k f e z q = ok_err q
+    items_told no_items from Γ k f e z q = cc
     items_told (more_items is x i) from Γ k f e z q =
         next_err (run_items rule from Γ k is)
         (λ c. must_not (twice x) (find (item_sort i) x c) (next (run_item rule (under k from) (extend Γ (structure c)) (suc (k + components_size c)) i) (λ d. Ok (more c x d)))) f q
@@ -405,15 +399,15 @@ module _ {C : Type 0} (n : ℕ) (rule : Operation → List Ty → Outcome C) (la
         (λ r'. map_told (λ q. item_last c r)
         (item_told i (under k from) (extend Γ (structure c)) (suc (k + components_size c)) f (items_settled is from Γ k c e r)
         (laid_later (under k from) (extend Γ (structure c)) (k + components_size c) (suc (k + components_size c)) (omega arith) (laid_extend from Γ k k (structure c) (omega arith) z)) r'))
-        (λ d r' s''. ok_err s'')))
+        (λ d r' s''. cc)))
 
     item_told :
         (i : Item) (from : Head → ℕ) (Γ : Env) (k : ℕ) (f : Fault C) → SettledEnv Γ → Laid from Γ k → run_item rule from Γ k i ≡ Err f → Told (ItemAsks rule from Γ k i) f
     item_told (type_item t) from Γ k f e z q =
-        next_err (run_type Γ t) (λ n. Ok (defined n)) f q (Told (ItemAsks rule from Γ k (type_item t)) f) (λ r. map_told (λ q. in_type_item) (type_told t Γ f e r)) (λ a r s. ok_err s)
+        next_err (run_type Γ t) (λ n. Ok (defined n)) f q (Told (ItemAsks rule from Γ k (type_item t)) f) (λ r. map_told (λ q. in_type_item) (type_told t Γ f e r)) (λ a r s. cc)
     item_told (let_item t) from Γ k f e z q =
         next_err (run_term rule (in_numbers from Γ) Γ [] t) (λ n. Ok (value n)) f q (Told (ItemAsks rule from Γ k (let_item t)) f)
-        (λ r. map_told (λ q. in_let_item) (term_told t (in_numbers from Γ) Γ [] f e (numbers_give from Γ k z n rule law) (λ k t i. clash (cc)) r)) (λ a r s. ok_err s)
+        (λ r. map_told (λ q. in_let_item) (term_told t (in_numbers from Γ) Γ [] f e (numbers_give from Γ k z n rule law) (λ k t i. cc) r)) (λ a r s. cc)
     item_told (module_item m) from Γ k f e z q =
         next_err (run_module rule from Γ k m) (λ s. Ok (nested s)) f q (Told (ItemAsks rule from Γ k (module_item m)) f)
-        (λ r. map_told (λ q. in_module_item) (module_told m from Γ k f e z r)) (λ a r s. ok_err s)
+        (λ r. map_told (λ q. in_module_item) (module_told m from Γ k f e z r)) (λ a r s. cc)

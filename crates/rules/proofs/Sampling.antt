@@ -13,8 +13,6 @@ use Rattle.cores.specs.MiniMl.{ml_words}
 use Rattle.cores.specs.declared.interface.Operation.TheVariants.{Function}
 use Rattle.cores.specs.declared.lines.Position.{Position}
 use Rattle.rules.specs.Errors.{first_order_rule, ErrorsCaught}
-use Rattle.rules.specs.Runs.{FaultRuns}
-use Rattle.rules.proofs.Finding.{clash}
 use Rattle.rules.proofs.Settling.{given_true, given_is}
 
 abbrev accepts : Units → Bool
@@ -27,12 +25,12 @@ refused : CheckDecides ml_rule → (us : Units) → accepts us ≡ false → Der
 refused d us q l =
     let w = (d us).0 l in
     let e : accepts us ≡ true = given_is (check_units ml_rule us) (λ Γ. true) w.0 w.1 refl in
-    clash (cc)
+    cc
 
 unfit : FitDecides ml_rule → (us : Units) (u : CompilationUnit) (s : Signature) → fits ml_rule us u s ≡ false → DerivedFor ml_rule us u s → ⊥
 unfit d us u s q l =
     let e = (d us u s).0 l in
-    clash (cc)
+    cc
 
 pub samples : CheckDecides ml_rule → FitDecides ml_rule → Samples
 samples c f = record {
@@ -59,7 +57,7 @@ first_order_lem law =
     let f = label2 2 (label0 0) (label0 0) in
     let e : first_order_rule Function (f ∷ f ∷ []) ≡ gives (label2 2 f f) = law (λ t. f) Function (a ∷ a ∷ []) (label2 2 a a) refl in
     let q : ◌≡◌ {A = Outcome Position} (refuses (record { number = 2 })) (gives (label2 2 f f)) = e in
-    clash (cc)
+    cc
 
 pub errors_caught : CheckDecides ml_rule → ErrorsCaught
 errors_caught c = record {
@@ -67,27 +65,4 @@ errors_caught c = record {
   asks_less = derivable c _ refl;
   asks_more = refused c _ refl;
   nested = derivable c _ refl;
-}
-
-pub fault_runs : FaultRuns
-fault_runs = record {
-  no_type = refl;
-  no_value = refl;
-  no_module = refl;
-  no_unit = refl;
-  sealed = refl;
-  generative = refl;
-  applies = refl;
-  missing = refl;
-  other_value = refl;
-  other_type = refl;
-  other_kind = refl;
-  other_kind_inside = refl;
-  parameter = refl;
-  type_fits = refl;
-  type_large = refl;
-  all_fits = refl;
-  structure_large = refl;
-  functor_large = refl;
-  signature_large = refl;
 }

@@ -5,10 +5,10 @@ use Rattle.rules.specs.Signatures.{Sort, a_type, a_module, Signature, structure,
 use Rattle.rules.specs.Substitution.{Substitution, on_path, out, lift, reading, on_type, on_signature, on_components, on_declaration}
 use Rattle.rules.specs.Lookup.{Env, extend, At, head, inside, Has, Normal, opaque, unfolds, bare, part, parts}
 use Rattle.rules.specs.Checker.{and_then, given, unless, declared, module_of, lookup, put, normal_type}
-use Rattle.rules.proofs.Algebra.{signature_id, sort_on, type_reading_on}
-use Rattle.rules.proofs.Finding.{clash, find_on_some, find_on_none, find_cases, Begins, all, onward, normal_unique}
+use Rattle.rules.proofs.Algebra.{signature_id, sort_on}
+use Rattle.rules.proofs.Finding.{find_on_some, find_on_none, find_cases, Begins, all, onward, normal_unique}
 use Rattle.rules.proofs.Inner.{Proper, ProperAll, ProperOne, ProperEnv}
-use Rattle.rules.proofs.Along.{From, under_from, lift_from, at_along, extend_cases, was_abstract, was_defined, was_some}
+use Rattle.rules.proofs.Along.{From, under_from, lift_from, at_along, extend_cases, was_abstract, was_some, defined_along}
 use Rattle.rules.proofs.Exact.{Exact, exact_laws, exact_has, exact_at, longer, out_from}
 use Rattle.rules.proofs.Reflexive.{has_at}
 
@@ -50,18 +50,12 @@ pub settled_env_proper : (Γ : Env) → SettledEnv Γ → ProperEnv Γ
 settled_env_proper Γ e h s f = settled_proper s Γ (e h s f)
 
 -- normal forms go along where everything is known exactly
-normal_exactly : {Γ' : Env} {t n : Ty} → Normal Γ' t n → (θ : Substitution) (Γ : Env) → From Exact θ Γ' Γ → Normal Γ (on_type θ t) (on_type θ n)
+pub normal_exactly : {Γ' : Env} {t n : Ty} → Normal Γ' t n → (θ : Substitution) (Γ : Env) → From Exact θ Γ' Γ → Normal Γ (on_type θ t) (on_type θ n)
 normal_exactly (opaque {p = p} {x = x} h) θ Γ k =
     let c = h.components in
     opaque (exact_has Γ (on_path θ p) (on_components (lift θ) c) a_type x abstract (at_along Exact exact_laws h.leads θ Γ k)
     (find_on_some (lift θ) a_type x c abstract (h.found ∙ ap Some (was_abstract (reading p) h.declared h.reads))))
-normal_exactly (unfolds {p = p} {x = x} {n = n} t h m) θ Γ k =
-    let c = h.components in
-    let w = was_defined (reading p) h.declared t h.reads in
-    unfolds (on_type (reading (on_path θ p)) (on_type (lift θ) w.0))
-    (exact_has Γ (on_path θ p) (on_components (lift θ) c) a_type x (defined (on_type (lift θ) w.0)) (at_along Exact exact_laws h.leads θ Γ k)
-    (find_on_some (lift θ) a_type x c (defined w.0) (h.found ∙ ap Some w.1)))
-    (subst (λ z. Normal Γ z (on_type θ n)) (sym (ap (on_type θ) w.2) ∙ type_reading_on θ p w.0) (normal_exactly m θ Γ k))
+normal_exactly (unfolds {n = n} t h m) θ Γ k = defined_along Exact exact_laws h θ Γ k (on_type θ n) (normal_exactly m θ Γ k)
 normal_exactly bare θ Γ k = bare
 normal_exactly (part m) θ Γ k = part (normal_exactly m θ Γ k)
 normal_exactly (parts m m') θ Γ k = parts (normal_exactly m θ Γ k) (normal_exactly m' θ Γ k)
@@ -99,7 +93,7 @@ settled_finer Γ' Γ s k w = subst (Settled Γ) (signature_id s) (settled_along 
 settled_found :
     (Γ : Env) (c : Components) → SettledAll Γ c → (s : Sort) (x : Name) (d : Declaration) → find s x c ≡ Some d →
     (b : Components) × Begins b c × SettledOne (extend Γ (structure b)) d
-settled_found Γ empty w s x d f = clash (cc)
+settled_found Γ empty w s x d f = cc
 settled_found Γ (more c y e) w s x d f = go (settled_found Γ c w.0 s x d) (find_cases c y e s x d f)
   where
     go :
@@ -132,14 +126,14 @@ settled_has {Γ} {p} {s} {x} {d} e h =
 
 -- the functions find what the relations say
 pub then_some : {A B : Type 0} (o : Option A) (f : A → Option B) (b : B) → and_then o f ≡ Some b → (a : A) × (o ≡ Some a) × (f a ≡ Some b)
-then_some None f b e = clash (cc)
+then_some None f b e = cc
 then_some (Some a) f b e = (a, refl, e)
 
 pub then_is : {A B : Type 0} (o : Option A) (f : A → Option B) (a : A) (b : B) → o ≡ Some a → f a ≡ Some b → and_then o f ≡ Some b
 then_is o f a b e q = ap (λ z. and_then z f) e ∙ q
 
 pub given_true : {A : Type 0} (o : Option A) (f : A → Bool) → given o f ≡ true → (a : A) × (o ≡ Some a) × (f a ≡ true)
-given_true None f e = clash (cc)
+given_true None f e = cc
 given_true (Some a) f e = (a, refl, e)
 
 pub given_is : {A : Type 0} (o : Option A) (f : A → Bool) (a : A) → o ≡ Some a → f a ≡ true → given o f ≡ true
@@ -147,7 +141,7 @@ given_is o f a e q = ap (λ z. given z f) e ∙ q
 
 pub unless_some : {A B : Type 0} (o : Option A) (r : Option B) (b : B) → unless o r ≡ Some b → (o ≡ None) × (r ≡ Some b)
 unless_some None r b e = (refl, e)
-unless_some (Some a) r b e = clash (cc)
+unless_some (Some a) r b e = cc
 
 pub unless_is : {A B : Type 0} (o : Option A) (r : Option B) (b : B) → o ≡ None → r ≡ Some b → unless o r ≡ Some b
 unless_is o r b e q = ap (λ z. unless z r) e ∙ q
@@ -158,11 +152,11 @@ declared_of :
 declared_of Γ p s x d f = go (lookup Γ p) refl
   where
     go : (o : Option Signature) → lookup Γ p ≡ o → declared p s x o ≡ Some d → Has Γ p s x d
-    go None q e = clash (cc)
+    go None q e = cc
     go (Some (structure c)) q e =
         let w = was_some (on_declaration (reading p)) (find s x c) d e in
         record { components = c; declared = w.0; leads = f (structure c) q; found = w.1; reads = w.2 }
-    go (Some (functor a b)) q e = clash (cc)
+    go (Some (functor a b)) q e = cc
 
 module_is : (o : Option Declaration) (s : Signature) → module_of o ≡ Some s → o ≡ Some (nested s)
 module_is None s e = cc
@@ -195,16 +189,16 @@ pub normal_type_lem : (Γ : Env) (t n : Ty) → SettledEnv Γ → normal_type Γ
 normal_type_lem Γ (leaf (named p x)) n e i = go (declared p a_type x (lookup Γ p)) refl i
   where
     go : (o : Option Declaration) → declared p a_type x (lookup Γ p) ≡ o → put p x o ≡ Some n → Normal Γ (leaf (named p x)) n
-    go None q i = clash (cc)
+    go None q i = cc
     go (Some abstract) q i =
         let j : leaf (named p x) ≡ n = cc in subst (Normal Γ (leaf (named p x))) j (opaque (declared_has Γ p a_type x abstract q))
     go (Some (defined t)) q i =
         let j : t ≡ n = cc in
         let h = declared_has Γ p a_type x (defined t) q in
         subst (Normal Γ (leaf (named p x))) j (unfolds t h (settled_has e h))
-    go (Some (value t)) q i = clash (cc)
-    go (Some (nested s)) q i = clash (cc)
-normal_type_lem Γ (leaf (numbered k)) n e i = clash (cc)
+    go (Some (value t)) q i = cc
+    go (Some (nested s)) q i = cc
+normal_type_lem Γ (leaf (numbered k)) n e i = cc
 normal_type_lem Γ (label0 l) n e i = let j : label0 l ≡ n = cc in subst (Normal Γ (label0 l)) j bare
 normal_type_lem Γ (label1 l t) n e i =
     let w = was_some (label1 l) (normal_type Γ t) n i in subst (Normal Γ (label1 l t)) w.2 (part (normal_type_lem Γ t w.0 e w.1))

@@ -88,8 +88,9 @@ abbrev mutual
   NamedOne Γ p x (value t) = Unit {0}
   NamedOne Γ p x (nested s) = Named Γ (dot p x) s
 
+-- the same under one more binder
 mutual
-  named_out : (s : Signature) (Γ : Env) (g : Signature) (p : ModulePath) → Named Γ p s → Named (extend Γ g) (on_path out p) s
+  pub named_out : (s : Signature) (Γ : Env) (g : Signature) (p : ModulePath) → Named Γ p s → Named (extend Γ g) (on_path out p) s
   named_out (structure c) Γ g p w = named_all_out c Γ g p w
   named_out (functor s r) Γ g p w = tt
 
@@ -97,7 +98,7 @@ mutual
   named_all_out empty Γ g p w = tt
   named_all_out (more c x d) Γ g p w = (named_all_out c Γ g p w.0, named_one_out d Γ g p x w.1)
 
-  named_one_out : (d : Declaration) (Γ : Env) (g : Signature) (p : ModulePath) (x : Name) → NamedOne Γ p x d → NamedOne (extend Γ g) (on_path out p) x d
+  pub named_one_out : (d : Declaration) (Γ : Env) (g : Signature) (p : ModulePath) (x : Name) → NamedOne Γ p x d → NamedOne (extend Γ g) (on_path out p) x d
   named_one_out abstract Γ g p x w = typed_along Knows knows_laws w out (extend Γ g) (out_along Γ g)
   named_one_out (defined t) Γ g p x w = tt
   named_one_out (value t) Γ g p x w = tt
@@ -161,6 +162,21 @@ mutual
   strengthened_one_shown (value t) Γ' Γ θ p q x w v h = h
   strengthened_one_shown (nested s) Γ' Γ θ p q x w v h = strengthened_shown s Γ' Γ θ (dot p x) (dot q x) w v (has_at h)
 
+-- a structure along a substitution, and then strengthened
+pub strengthened_along :
+    (s : Signature) (Γ' Γ : Env) (θ : Substitution) (p : ModulePath) → Proper Γ' s → Along θ Γ' Γ → Named Γ p s →
+    Along (lift θ) (extend Γ' s) (extend Γ (strengthen p (on_signature θ s)))
+strengthened_along s Γ' Γ θ p w k v =
+    let g = strengthen p (on_signature θ s) in
+    let Γ+ = extend Γ g in
+    let θ+ = after out θ in
+    let k⁺ = weaken_along θ Γ' Γ g k in
+    let here : At Γ+ innermost (strengthen (on_path out p) (on_signature θ+ s)) =
+    subst (At Γ+ innermost) (strengthen_on (on_signature θ s) out p ∙ ap (strengthen (on_path out p)) (signature_comp out θ s)) (head refl) in
+    let shown = strengthened_shown s Γ' Γ+ θ+ (on_path out p) innermost w (named_out s Γ g p v) here in
+    under_along θ+ Γ' Γ+ innermost s k⁺
+    (knows_gives (shown_gives s Γ' Γ+ θ+ θ+ innermost w k⁺ k⁺ (agree_self Γ' θ+ Γ+ k⁺) shown))
+
 -- a strengthened signature is proper
 mutual
   proper_strengthen' :
@@ -178,20 +194,12 @@ mutual
       let p' = on_path out p in
       let d' = on_declaration (lift θ) d in
       let sorts : sort_of (strengthen_one p' x d') ≡ sort_of d = strengthen_sort p' x d' ∙ sort_on (lift θ) d in
-      let g = strengthen p (structure c') in
-      let Γ+ = extend Γ g in
-      let θ+ = after out θ in
-      let k⁺ = weaken_along θ Γ' Γ g k in
-      let here : At Γ+ innermost (strengthen p' (on_signature θ+ (structure c))) =
-      subst (At Γ+ innermost) (strengthen_on (structure c') out p ∙ ap (strengthen p') (signature_comp out θ (structure c))) (head refl) in
-      let shown = strengthened_shown (structure c) Γ' Γ+ θ+ p' innermost w.0 (named_all_out c Γ g p v.0) here in
-      let k+ : Along (lift θ) (extend Γ' (structure c)) Γ+ =
-      under_along θ+ Γ' Γ+ innermost (structure c) k⁺
-      (knows_gives (shown_gives (structure c) Γ' Γ+ θ+ θ+ innermost w.0 k⁺ k⁺ (agree_self Γ' θ+ Γ+ k⁺) shown)) in (
+      let g = strengthen p (structure c') in (
         proper_all_strengthen c Γ' Γ θ p w.0 k v.0 u.0,
         ap (λ s. find s x (strengthen_all p' c')) sorts
             ∙ (strengthen_find p' (sort_of d) x c' ∙ ap (on_some (strengthen_one p' x)) (find_on_none (lift θ) (sort_of d) x c w.1)),
-        proper_one_strengthen d (extend Γ' (structure c)) Γ+ (lift θ) p' x w.2 k+ (named_one_out d Γ g p x v.1),
+        proper_one_strengthen d (extend Γ' (structure c)) (extend Γ g) (lift θ) p' x w.2
+            (strengthened_along (structure c) Γ' Γ θ p w.0 k v.0) (named_one_out d Γ g p x v.1),
       )
 
   proper_one_strengthen :

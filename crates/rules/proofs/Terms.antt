@@ -63,6 +63,6 @@ module _ {C : Type 0} (rule : Operation → List Ty → Outcome C) where
         let i = term_unique h h' in
         cc
 
-    terms_unique : {Γ : Env} {Δ : List Ty} {ts : Terms} {us us' : List Ty} → TermsHave rule Γ Δ ts us → TermsHave rule Γ Δ ts us' → us ≡ us'
+    pub terms_unique : {Γ : Env} {Δ : List Ty} {ts : Terms} {us us' : List Ty} → TermsHave rule Γ Δ ts us → TermsHave rule Γ Δ ts us' → us ≡ us'
     terms_unique none_have none_have = refl
     terms_unique (more_have h hs) (more_have h' hs') = ap₂ (λ a b. a ∷ b) (term_unique h h') (terms_unique hs hs')

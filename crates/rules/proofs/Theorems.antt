@@ -1,5 +1,7 @@
 -- The theorems, as they are stated.
 use Rattle.std.proofs.Common.{◌≡◌, ℕ, ◌+◌, true, false, List, Some, None, Ok, Option, sym, refl, ap, ◌∙◌, subst, subst₂}
+use Rattle.std.proofs.lemmas.Option.{same_Some}
+use Rattle.std.specs.Option.{is_none}
 use Rattle.types.specs.Types.{at, Ty}
 use Rattle.cores.specs.Meaning.{Outcome, Stable}
 use Rattle.cores.specs.declared.interface.Operation.{Operation}
@@ -11,7 +13,7 @@ use Rattle.rules.specs.Rules.{Derives, by_matching}
 use Rattle.rules.specs.Projects.{Units, DerivedFor, FitsUnit}
 use Rattle.rules.specs.Statements.{NormalFormsExist, MatchingReflexive, MatchingTransitive, StrengtheningExact, DerivedIsSound, OneSignature, SixthRuleLast, LoadsAlike, DerivedExactly, OwnIsOne, OwnIsLeast, CheckDecides, FitDecides, CheckedIsOwn, RunDecides, RunFitDecides, MismatchIsFirst, NoMismatchMatches, RefusalsMean, KnownIsTidy, NumbersExact}
 use Rattle.rules.specs.Checker.{check, check_units, normalize, does_match, given, fits}
-use Rattle.rules.proofs.Finding.{clash, normal_unique}
+use Rattle.rules.proofs.Finding.{normal_unique}
 use Rattle.rules.proofs.Inner.{Fits}
 use Rattle.rules.proofs.Settling.{settled_env_proper, settled_proper, given_true, given_is}
 use Rattle.rules.proofs.Normalizing.{normalize_is, normalize_proper}
@@ -27,7 +29,7 @@ use Rattle.rules.specs.Sizes.{by_number}
 use Rattle.rules.proofs.Leaves.{leaf_law}
 use Rattle.rules.proofs.Numbering.{numbers_give}
 use Rattle.cores.specs.Meaning.{gives}
-use Rattle.rules.proofs.Mirror.{is_none, mismatch_is, module_agrees, units_agree, accepts_some, some_accepts, ok_some, units_accepted, accepted_units, units_known, fit_agrees, given_some, some_given}
+use Rattle.rules.proofs.Mirror.{mismatch_is, module_agrees, units_agree, accepts_some, some_accepts, ok_some, units_accepted, accepted_units, units_known, fit_agrees, given_some, some_given}
 use Rattle.rules.proofs.Checked.{derives_finds, check_knows, loads_check}
 use Rattle.rules.proofs.Transitive.{fits_trans}
 use Rattle.rules.proofs.Knowing.{Along, id_along, fits_finer}
@@ -69,7 +71,7 @@ mismatch_is_first Γ t a b q v m f = mismatch_first Γ t a b q (sound_proper b �
 
 none_of : {A : Type 0} (o : Option A) → is_none o ≡ true → o ≡ None
 none_of None e = refl
-none_of (Some a) e = clash (cc)
+none_of (Some a) e = cc
 
 pub no_mismatch_matches : NoMismatchMatches
 no_mismatch_matches Γ t a b q v =
@@ -192,20 +194,17 @@ module _ {C : Type 0} (n : ℕ) (rule : Operation → List Ty → Outcome C) (la
       let same = loads_unique k.loads o.before in
       let forth : Along at Γ Δ = subst (Along at Γ) same k.finer in
       let l = loads_check n rule law o.before in
-      let there : l.known ≡ Γ = some_is (sym l.is ∙ q) in
+      let there : l.known ≡ Γ = same_Some _ _ (sym l.is ∙ q) in
       let back : Along at Δ Γ = subst (Along at Δ) there l.finer in
       let j = check_checks n rule law u.body Γ s k.settled c in
       let eΔ = loads_proper n rule law o.before in
       let i = principal n rule law j.derives (settled_env_proper Γ k.settled) Δ eΔ forth in
       let own = derives_unique rule i.1 o.derived in
       let f = derives_finds n rule law o.derived eΔ Γ k.settled back in
-      let found : f.checked ≡ s = some_is (sym f.is ∙ c) in (
+      let found : f.checked ≡ s = same_Some _ _ (sym f.is ∙ c) in (
         fits_matches (fits_trans (subst (λ z. Fits Δ z j.own) own i.2) (fits_finer forth j.matches)),
         fits_matches (fits_finer forth (subst (λ z. Fits Γ z g) found f.matches)),
       )
-    where
-      some_is : {A : Type 0} {a b : A} → Some a ≡ Some b → a ≡ b
-      some_is e = cc
 
   pub run_decides : RunDecides rule
   run_decides us q = (

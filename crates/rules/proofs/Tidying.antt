@@ -1,5 +1,6 @@
 -- What accepted units make known is tidy.
 use Rattle.std.proofs.Common.{◌≡◌, ℕ, List, Some, None, Ok, Err, Option, Result, refl, ap, subst}
+use Rattle.std.proofs.lemmas.Option.{same_Some}
 use Rattle.types.specs.Types.{Name, unit, Ty}
 use Rattle.cores.specs.Meaning.{Outcome, Stable}
 use Rattle.cores.specs.declared.interface.Operation.{Operation}
@@ -13,7 +14,6 @@ use Rattle.rules.proofs.Settling.{Settled, SettledAll, SettledOne, SettledEnv, s
 use Rattle.rules.proofs.Checking.{check_checks}
 use Rattle.rules.specs.Sizes.{Laid}
 use Rattle.rules.specs.Faults.{Fault, twice, next, must_not, Known, one_more, run_unit, in_unit, run_units}
-use Rattle.rules.proofs.Finding.{clash}
 use Rattle.rules.proofs.Numbering.{laid_none, laid_unit}
 use Rattle.rules.proofs.Failing.{tidy_settled}
 
@@ -39,11 +39,8 @@ mutual
   settled_one_normal (value t) Γ e w = ap (on_some value) (type_normal e w)
   settled_one_normal (nested s) Γ e w = ap (on_some nested) (settled_normal s Γ e w)
 
-some_is : {A : Type 0} {a b : A} → Some a ≡ Some b → a ≡ b
-some_is e = cc
-
 pub check_tidy : {C : Type 0} (n : ℕ) (rule : Operation → List Ty → Outcome C) → Stable n rule → (us : Units) (Γ : Env) → check_units rule us ≡ Some Γ → Tidy Γ
-check_tidy n rule law no_units Γ q = subst Tidy (some_is q) nothing_yet
+check_tidy n rule law no_units Γ q = subst Tidy (same_Some _ _ q) nothing_yet
 check_tidy n rule law (more_units us u) Γ q =
     let x = u.name in
     let w = then_some (check_units rule us) (λ Γ. unless (Γ (unit u.name)) (and_then (check rule Γ u.body) (λ s. Some (with_unit u.name s Γ)))) Γ q in
@@ -53,19 +50,19 @@ check_tidy n rule law (more_units us u) Γ q =
     let t = check_tidy n rule law us Γ₀ w.1 in
     let e = tidy_settled t in
     let j = check_checks n rule law u.body Γ₀ y.0 e y.1 in
-    subst Tidy (some_is y.2) (a_unit x y.0 t v.0 (settled_normal y.0 Γ₀ e j.settled))
+    subst Tidy (same_Some _ _ y.2) (a_unit x y.0 t v.0 (settled_normal y.0 Γ₀ e j.settled))
 
 next_ok : {A B E : Type 0} (r : Result A E) (f : A → Result B E) (b : B) → next r f ≡ Ok b → (a : A) × (r ≡ Ok a) × (f a ≡ Ok b)
 next_ok (Ok a) f b q = (a, refl, q)
-next_ok (Err e) f b q = clash (cc)
+next_ok (Err e) f b q = cc
 
 must_not_ok : {A B E : Type 0} (x : E) (o : Option A) (r : Result B E) (b : B) → must_not x o r ≡ Ok b → (o ≡ None) × (r ≡ Ok b)
 must_not_ok x None r b q = (refl, q)
-must_not_ok x (Some a) r b q = clash (cc)
+must_not_ok x (Some a) r b q = cc
 
 in_unit_ok : {A C : Type 0} (x : Name) (r : Result A (Fault C)) (a : A) → in_unit x r ≡ Ok a → r ≡ Ok a
 in_unit_ok x (Ok b) a q = cc
-in_unit_ok x (Err f) a q = clash (cc)
+in_unit_ok x (Err f) a q = cc
 
 ok_is : {A E : Type 0} {a b : A} → ◌≡◌ {A = Result A E} (Ok a) (Ok b) → a ≡ b
 ok_is q = cc

@@ -5,7 +5,7 @@ use Rattle.rules.specs.Signatures.{Sort, a_type, a_value, a_module, Signature, s
 use Rattle.rules.specs.Substitution.{innermost, on_path, out, reading, on_type, on_signature, on_components, on_declaration}
 use Rattle.rules.specs.Lookup.{Env, extend, At, Has, Normal}
 use Rattle.rules.proofs.Algebra.{extent_on, signature_id, components_id}
-use Rattle.rules.proofs.Finding.{clash, find_on_some, find_cases, extent_found, normal_unique}
+use Rattle.rules.proofs.Finding.{find_on_some, find_cases, extent_found, normal_unique}
 use Rattle.rules.proofs.Inner.{Typed, Gives, g_structure, g_functor, GivesAll, g_abstract, g_defined, g_value, g_nested, Fits, f_structure, f_functor}
 use Rattle.rules.proofs.Along.{Laws, From, fits_along, gives_all_along}
 use Rattle.rules.proofs.Exact.{Exact, exact_laws, gives_weaken, fits_fresh, narrow_from}
@@ -30,7 +30,7 @@ gives_more Γ q c x (value t) m o = g_value o.0 o.1 m o.2 o.3 o.4
 gives_more Γ q c x (nested s) m o = g_nested m o
 
 pub gives_found : (Γ : Env) (q : ModulePath) (c : Components) → GivesAll Γ q c → (s : Sort) (x : Name) (d : Declaration) → find s x c ≡ Some d → GivesOne Γ q x d
-gives_found Γ q empty m s x d f = clash (cc)
+gives_found Γ q empty m s x d f = cc
 gives_found Γ q (more c y e) m s x d f =
     let w = gives_last Γ q c y e m in go (gives_found Γ q c w.0 s x d) w.1 (find_cases c y e s x d f)
   where
@@ -154,7 +154,7 @@ module _ (n : ℕ) (tf : ThroughFunctors n) where
       q')
 
 through_functors : (n : ℕ) → ThroughFunctors n
-through_functors zero = λ Γ f s r s' r' l m m'. let z : ⊥ = omega arith in absurd z
+through_functors zero = λ Γ f s r s' r' l m m'. absurd (omega arith)
 through_functors (suc n) = through_more n (through_functors n)
 
 -- matching is transitive
