@@ -47,6 +47,10 @@ begun_state ws text w d s e = begin ws text (symbols_of w d) (ap sealed e ∙ st
 abbrev pub begun_notes : List Word → List ℕ → List ℕ → List ℕ → ℕ → List (Note × ℕ)
 begun_notes ws text row w d = annotate (symbols_of w d) (map_attrs (scope_of row text) (attrs_of w d)) (stream_of ws text)
 
+pub none_yet : (f : Firsts) → (f.deep ≡ None) × ((f.again ≡ None) × ((f.missing ≡ None) × (f.mention ≡ None))) →
+    f ≡ record { deep = None; again = None; missing = None; mention = None }
+none_yet f e = λ k. record { deep = e.0 k; again = e.1.0 k; missing = e.1.1.0 k; mention = e.1.1.1 k }
+
 pub begun_noting : (ws : List Word) (text : List ℕ) (asked : ℕ) (row w : List ℕ) (d : ℕ) (s : Start) → attrs_of w d ≡ root_attrs (start_of s) →
     Noting ws text asked (begun_notes ws text row w d) (symbols_of w d) (attrs_of w d) row 0 0
     (record { deep = None; again = None; missing = None; mention = None }) []

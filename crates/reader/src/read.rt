@@ -23,7 +23,7 @@ pub const SCRATCH_WORDS: usize = 65_536;
 pub const TEXT_LIMIT: usize = 4_000;
 
 // What is learned of a unit besides that it reads: its name, as the part of the text that spells it, with its place, and its rank.
-#[derive(Clone, Copy)]
+#[derive(Clone, Copy, PartialEq, Eq, Debug)]
 pub struct UnitHeading<'a> {
     pub name: &'a [u8],
     pub place: usize,
@@ -93,12 +93,10 @@ pub fn read_signature<C: Core>(core: &C, text: &[u8], scratch: &mut [u32]) -> Re
 }
 
 // A list of tokens is written by at most one tree, and what a tree writes is read back. Nothing is computed.
-pub fn one_tree_stands() -> u8
+pub fn one_tree_stands()
     ensures one { OneTree }
     ensures back { PrintsAreRead }
-{
-    0
-}
+{}
 
 // The upper name that stands at a place, if one does. Linear in the text up to its end.
 fn name_at(text: &[u8], place: usize) -> Option<(&[u8], usize)>
@@ -190,8 +188,5 @@ pub fn signature_heads<'s, C: Core>(
 pub fn head_name(text: &[u8], place: usize) -> Option<&[u8]>
     ensures { shown result ≡ head_name text.now place }
 {
-    match name_at(text, place) {
-        Some((name, _)) => Some(name),
-        None => None,
-    }
+    name_at(text, place).map(|(name, _)| name)
 }

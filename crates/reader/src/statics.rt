@@ -14,9 +14,9 @@ use super::class::Class;
 use super::classify::class_of;
 use super::fault::ReadFault;
 use super::frame::{Frame, Place, frame_at, push_frames, symbol_at};
-use super::notes::{Firsts, enter, list_place, names_unit, noted, place_of, span, verdict};
+use super::notes::{Firsts, enter, list_place, note_of, place_of, span, verdict};
 use super::parse::Start;
-use super::row::part;
+use super::row::{Scope, part};
 use super::table::expand;
 use cores::interface::Core;
 use tokens::lexer::next;
@@ -68,12 +68,7 @@ fn survey_all<C: Core>(
     let mut depth = begin(frames, start);
     let mut count = 0;
     let mut heads = 0;
-    let mut firsts = Firsts {
-        deep: None,
-        again: None,
-        missing: None,
-        mention: None,
-    };
+    let mut firsts = Firsts::default();
     let mut from = 0;
     'tokens: while let Some(found) = next(text, from)? {
         let symbol = symbol_at(frames, depth - 1);
@@ -85,19 +80,14 @@ fn survey_all<C: Core>(
         let place = place_of(symbol, class, frame);
         let name = span(class, found.place, found.end);
         let spelled = part(text, name.0, name.1);
-        firsts = noted(
-            firsts,
+        let scope = Scope {
             row,
             text,
-            symbol,
-            class,
-            place,
-            spelled,
-            found.place,
-            asked,
-        );
-        let is_head = names_unit(row, text, place, symbol, class, spelled);
-        heads = list_place(places, heads, is_head, found.place);
+            number: place.scope,
+        };
+        let note = note_of(scope, place, symbol, class, spelled);
+        firsts = firsts.after(note, found.place, asked);
+        heads = list_place(places, heads, note.unit, found.place);
         let entered = enter(
             row,
             count,
@@ -120,17 +110,13 @@ fn survey_all<C: Core>(
     }
     let last = symbol_at(frames, depth - 1);
     let place = place_of(last, Class::TextEnd, frame_at(frames, depth - 1));
-    let told = noted(
-        firsts,
+    let scope = Scope {
         row,
         text,
-        last,
-        Class::TextEnd,
-        place,
-        &[],
-        text.len(),
-        asked,
-    );
+        number: place.scope,
+    };
+    let note = note_of(scope, place, last, Class::TextEnd, &[]);
+    let told = firsts.after(note, text.len(), asked);
     Ok((told, heads))
 }
 
@@ -151,10 +137,8 @@ fn survey<C: Core>(
     ensures { SurveyOf asked (annotate (start_of start) (start_attrs start) (stream_of C.Core.words text.now)) result }
 {
     let (scopes, places) = row.split_at_mut(ROW_WORDS);
-    match survey_all(core, text, frames, scopes, places, start, asked) {
-        Ok((firsts, _)) => Ok(firsts),
-        Err(fault) => Err(fault),
-    }
+    let (firsts, _) = survey_all(core, text, frames, scopes, places, start, asked)?;
+    Ok(firsts)
 }
 
 // Asks a text that reads whether too much is open at a token, whether a name is declared again, and whether a lower head is
