@@ -12,7 +12,7 @@ ghost use Rattle.project.specs.Naming.{seat_of, is_seat, is_none, first_or, Nami
 use super::fault::{Fault, Question};
 use cores::interface::Core;
 use order::{Fault as Unarranged, Order, Unit, add_mark, arrange};
-use reader::read::{SCRATCH_WORDS, head_name, unit_heads};
+use reader::read::{SCRATCH_WORDS, Start, head_name, heads_of};
 use store::directory::Directory;
 use store::entry::{BLANK, Entry};
 use store::layout::{STORE_BYTES, read};
@@ -73,7 +73,7 @@ fn text_named<C: Core>(core: &C, directory: &Directory, text: &[u8], scratch: &m
     requires { length scratch.old ≡ 65536 }
     ensures { NamingOf (live directory.now) text.now (heads_of C.Core.words text.now) result }
 {
-    match unit_heads(core, text, scratch) {
+    match heads_of(core, text, scratch, Start::Unit) {
         Ok(heads) => heads_named(directory, text, heads),
         Err(_) => heads_named(directory, text, &[]),
     }

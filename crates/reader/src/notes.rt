@@ -166,6 +166,19 @@ impl Firsts {
             mention: first(self.mention, note.unit && asked <= at, at),
         }
     }
+
+    // The first question that is answered with no, if there is one: too deep, then declared again, then not declared. Constant time.
+    pub fn verdict(self) -> Result<(), ReadFault>
+        ensures { result ≡ answered (ask_firsts self.deep self.again self.missing) }
+    {
+        let deep = self.deep.map(ReadFault::TooDeep);
+        let again = self.again.map(ReadFault::Redeclared);
+        let missing = self.missing.map(ReadFault::Undeclared);
+        match deep.or(again).or(missing) {
+            Some(fault) => Err(fault),
+            None => Ok(()),
+        }
+    }
 }
 
 // Lists a place behind so many, if it is wanted, and tells how many are listed then. Constant time.
@@ -180,18 +193,5 @@ pub(crate) fn list_place(places: &mut [u32], count: usize, wanted: bool, place: 
         count + 1
     } else {
         count
-    }
-}
-
-// The first question that is answered with no, if there is one: too deep, then declared again, then not declared. Constant time.
-pub fn verdict(firsts: Firsts) -> Result<(), ReadFault>
-    ensures { result ≡ answered (ask_firsts firsts.deep firsts.again firsts.missing) }
-{
-    let deep = firsts.deep.map(ReadFault::TooDeep);
-    let again = firsts.again.map(ReadFault::Redeclared);
-    let missing = firsts.missing.map(ReadFault::Undeclared);
-    match deep.or(again).or(missing) {
-        Some(fault) => Err(fault),
-        None => Ok(()),
     }
 }

@@ -15,9 +15,9 @@ use Rattle.reader.proofs.Noting.{Noting}
 use Rattle.reader.proofs.Passes.{room, never_stuck, next_state, room_after, never_broken, small_place, next_noting, last_firsts, last_heads}
 use Rattle.reader.proofs.Turns.{State, found_proper}
 use Rattle.reader.proofs.Places.{span_low, place_low}
-use Rattle.reader.proofs.statics.survey_all.Given as given
-use Rattle.reader.proofs.statics.survey_all.Goals as goal
-use Rattle.reader.proofs.statics.survey_all.Goals.{In-Some}
+use Rattle.reader.proofs.statics.go_through.Given as given
+use Rattle.reader.proofs.statics.go_through.Goals as goal
+use Rattle.reader.proofs.statics.go_through.Goals.{In-Some}
 
 -- the token of this turn is the next one of the text
 here : (g : given.Over) (c : In-Some g) → next_token c.args.text.now c.tokens.from ≡ token (view c.in-Some.found.token) c.in-Some.found.place c.in-Some.found.end
