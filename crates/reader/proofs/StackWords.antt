@@ -1,13 +1,11 @@
 -- Stacks of symbols in words: what a push and a pop leave.
-use Rattle.std.proofs.Common.{◌≡◌, ℕ, zero, suc, ◌+◌, ◌-◌, ◌<◌, ◌≤◌, true, false, ◌≢◌, List, ◌∷◌, ◌++◌, length, get_or, drop, set, sym, refl, ap, ◌∙◌, add-one, arith, get_or-set_other, get_or-set_same}
-use Rattle.std.proofs.lemmas.List.{drop_more}
+use Rattle.std.proofs.Common.{◌≡◌, ℕ, zero, suc, ◌+◌, ◌<◌, ◌≤◌, true, false, ◌≢◌, List, ◌∷◌, length, get_or, set, refl, ap, ◌∙◌, add-one, arith, get_or-set_other, get_or-set_same, length-set}
 use Rattle.reader.specs.declared.class.Class.{Class}
 use Rattle.reader.specs.declared.symbol.Symbol.{Symbol}
 use Rattle.reader.specs.declared.symbol.TypeContext.{TypeContext}
 use Rattle.reader.specs.declared.symbol.ModuleContext.{ModuleContext}
 use Rattle.reader.specs.Codes.{symbol_at, symbol_number}
-use Rattle.reader.specs.Stacks.{stack_of}
-use Rattle.reader.proofs.Checks.{sealed}
+use Rattle.reader.specs.Stacks.{Stacked, stack_of, stacked}
 
 -- a symbol is known by its number
 pub symbol_back : (s : Symbol) → symbol_at (symbol_number s) ≡ s
@@ -100,34 +98,26 @@ stack_push w n v h =
     ∙ ap (λ (x : ℕ). symbol_at x ∷ stack_of (set w n v) n) (get_or-set_same w n v 0 h)
     ∙ ap (λ (x : List Symbol). symbol_at v ∷ x) (stack_below w n v n (omega arith))
 
--- one symbol more of those that are put on the stack
-pub push_more :
-    (w : List ℕ) (symbols : List Symbol) (below : List Symbol) (top left v : ℕ) →
-    top < length w → 0 < left → left ≤ length symbols →
-    symbol_at v ≡ get_or symbols (left - 1) (Symbol.Token Class.Open) →
-    stack_of w top ≡ drop left symbols ++ below →
-    stack_of (set w top v) (top + 1) ≡ drop (left - 1) symbols ++ below
-push_more w symbols below top left v room some within is so =
-    let lt : left - 1 < length symbols = omega arith in
-    let up : left - 1 + 1 ≡ left = omega arith in
-    let more = drop_more symbols (left - 1) (Symbol.Token Class.Open) lt in
-    stack_push w top v room
-    ∙ ap (λ (x : Symbol). x ∷ stack_of w top) is
-    ∙ ap (λ (x : List Symbol). get_or symbols (left - 1) (Symbol.Token Class.Open) ∷ x) so
-    ∙ ap (λ (n : ℕ). (get_or symbols (left - 1) (Symbol.Token Class.Open) ∷ drop n symbols) ++ below) (sym up)
-    ∙ ap (λ (x : List Symbol). x ++ below) (sym more)
+-- each word is a symbol of the stack
+pub stack_long : (w : List ℕ) (n : ℕ) → length (stack_of w n) ≡ n
+stack_long w zero = refl
+stack_long w (suc n) = ap suc (stack_long w n)
 
-false_true : false ≡ true → ⊥
+-- there is a word for one symbol more
+pub put_within : (w : List ℕ) (n : ℕ) (v : Stacked) → stacked w n ≡ v → length v.symbols < v.room → n < length w
+put_within w n v e h =
+    let s = ap (λ (x : Stacked). length x.symbols) e in
+    let r = ap (λ (x : Stacked). x.room) e in
+    omega (arith, stack_long w n)
+
+-- the stack with one symbol more
+pub put : (w : List ℕ) (n : ℕ) (v : Stacked) (s : Symbol) (x : ℕ) → stacked w n ≡ v → n < length w → x ≡ symbol_number s →
+    stacked (set w n x) (n + 1) ≡ record { symbols = s ∷ v.symbols; room = v.room }
+put w n v s x e h is =
+    let top = stack_push w n x h ∙ ap (λ (y : ℕ). symbol_at y ∷ stack_of w n) is ∙ ap (λ (y : Symbol). y ∷ stack_of w n) (symbol_back s)
+    ∙ ap (λ (y : Stacked). s ∷ y.symbols) e in
+    let room = length-set w n x ∙ ap (λ (y : Stacked). y.room) e in
+    λ i. record { symbols = top i; room = room i }
+
+pub false_true : false ≡ true → ⊥
 false_true e = let z : ◌≡◌ {A = ℕ} 0 1 = cc in omega arith
-
--- a sealed stack is not empty
-pub sealed_deep : (w : List ℕ) (d : ℕ) → sealed (stack_of w d) ≡ true → 0 < d
-sealed_deep w zero h = absurd (false_true h)
-sealed_deep w (suc d) h = omega arith
-
--- the top of a stack
-pub stack_top : (w : List ℕ) (d : ℕ) → 0 < d → stack_of w d ≡ symbol_at (get_or w (d - 1) 0) ∷ stack_of w (d - 1)
-stack_top w zero h = absurd (omega arith)
-stack_top w (suc d) h =
-    let e : d ≡ suc d - 1 = omega arith in
-    ap (λ (n : ℕ). symbol_at (get_or w n 0) ∷ stack_of w n) e

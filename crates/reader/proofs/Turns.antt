@@ -1,5 +1,5 @@
 -- The turns of the reading loop.
-use Rattle.std.proofs.Common.{◌≡◌, ℕ, zero, suc, ◌+◌, ◌-◌, ◌<◌, ◌≤◌, Bool, true, false, cond, eqb, List, [], ◌∷◌, ◌++◌, length, get_or, drop, Some, None, Option, sym, refl, ap, ◌∙◌, subst, arith}
+use Rattle.std.proofs.Common.{◌≡◌, ℕ, zero, suc, ◌+◌, ◌<◌, ◌≤◌, Bool, true, false, cond, eqb, List, [], ◌∷◌, ◌++◌, length, drop, Some, None, Option, sym, refl, ap, ◌∙◌, subst, arith}
 use Rattle.tokens.specs.Lexer.{Next, at_end, token, no_token, next_token}
 use Rattle.tokens.specs.Pieces.{Piece, Proper, Cuts}
 use Rattle.tokens.specs.declared.lexer.Reason.{Reason}
@@ -15,10 +15,9 @@ use Rattle.reader.specs.Tokens.{Token, class_of, token_of, name_token, word_toke
 use Rattle.reader.specs.Grammar.{expand}
 use Rattle.reader.specs.Streams.{ahead, stream_from, stream_of}
 use Rattle.reader.specs.Reading.{refused, reads, learn, onward, ending, default_rank}
-use Rattle.reader.specs.Codes.{symbol_at}
-use Rattle.reader.specs.Stacks.{stack_of}
+use Rattle.reader.specs.Stacks.{Stacked}
 use Rattle.reader.proofs.Checks.{sealed, stays_sealed, short}
-use Rattle.reader.proofs.StackWords.{stack_top}
+use Rattle.reader.proofs.StackWords.{false_true}
 use Rattle.reader.proofs.Choosing.{same}
 
 -- what is left to be read gives what the whole text gives
@@ -144,51 +143,44 @@ module _ (ws : List Word) (text : List ℕ) (start : List Symbol) (t : Symbol) (
       next_token text from ≡ at_end → reads start (stream_of ws text) default_rank ≡ ending (expand t Class.TextEnd) (length text) rank
   ends e = sym (by_next at_end e).2
 
--- the same with the stack in words of memory
-module _ (ws : List Word) (text : List ℕ) (start : List Symbol) (w : List ℕ) (d from rank : ℕ)
-    (s : State ws text start (stack_of w d) from rank) (deep : 0 < d) (inside : from ≤ length text) where
-  topped : State ws text start (symbol_at (get_or w (d - 1) 0) ∷ stack_of w (d - 1)) from rank
-  topped = subst (λ (x : List Symbol). State ws text start x from rank) (stack_top w d deep) s
-
-  -- what the table says of the symbol and the class at hand is what it says of the top and the token
-  looked_up :
-      (symbol : Symbol) (class : Class) (p : Piece) (o : Option (List Symbol)) → symbol ≡ symbol_at (get_or w (d - 1) 0) →
-      class ≡ class_of (token_of ws p) → o ≡ expand symbol class → expand (symbol_at (get_or w (d - 1) 0)) (class_of (token_of ws p)) ≡ o
-  looked_up symbol class p o a b e =
-      ap (λ (x : Symbol). expand x (class_of (token_of ws p))) (sym a) ∙ ap (expand symbol) (sym b) ∙ sym e
+-- the same by what a stack was before its top was taken away
+module _ (ws : List Word) (text : List ℕ) (start : List Symbol) (v : Stacked) (t : Symbol) (rest : Stacked) (from rank : ℕ)
+    (s : State ws text start v.symbols from rank) (inside : from ≤ length text)
+    (popped : v ≡ record { symbols = t ∷ rest.symbols; room = rest.room }) where
+  topped : State ws text start (t ∷ rest.symbols) from rank
+  topped = subst (λ (x : Stacked). State ws text start x.symbols from rank) popped s
 
   pub next_turn :
-      (p : Piece) (place end : ℕ) (symbol : Symbol) (class : Class) (α : List Symbol) (w' : List ℕ) (d' rank' : ℕ) →
-      next_token text from ≡ token p place end → symbol ≡ symbol_at (get_or w (d - 1) 0) → class ≡ class_of (token_of ws p) →
-      Some α ≡ expand symbol class → stack_of w' d' ≡ α ++ stack_of w (d - 1) → rank' ≡ learn symbol (token_of ws p) rank →
-      State ws text start (stack_of w' d') end rank'
-  next_turn p place end symbol class α w' d' rank' e a b x st r =
-      let here = goes_on_lem ws text start (symbol_at (get_or w (d - 1) 0)) (stack_of w (d - 1)) from rank topped inside
-      p place end α e (looked_up symbol class p (Some α) a b x) in
-      subst (λ (n : ℕ). State ws text start (stack_of w' d') end n)
-      (ap (λ (x : Symbol). learn x (token_of ws p) rank) (sym a) ∙ sym r)
-      (subst (λ (x : List Symbol). State ws text start x end (learn (symbol_at (get_or w (d - 1) 0)) (token_of ws p) rank)) (sym st) here)
+      (p : Piece) (place end : ℕ) (class : Class) (α : List Symbol) (after : Stacked) (rank' : ℕ) →
+      next_token text from ≡ token p place end → class ≡ class_of (token_of ws p) → Some α ≡ expand t class →
+      after ≡ record { symbols = α ++ rest.symbols; room = rest.room } → rank' ≡ learn t (token_of ws p) rank →
+      State ws text start after.symbols end rank'
+  next_turn p place end class α after rank' e b x st r =
+      rw (st, r) (goes_on_lem ws text start t rest.symbols from rank topped inside p place end α e (ap (expand t) (sym b) ∙ sym x))
 
   pub refuses :
-      (p : Piece) (place end : ℕ) (symbol : Symbol) (class : Class) →
-      next_token text from ≡ token p place end → symbol ≡ symbol_at (get_or w (d - 1) 0) → class ≡ class_of (token_of ws p) →
-      None ≡ expand symbol class → reads start (stream_of ws text) default_rank ≡ refused place
-  refuses p place end symbol class e a b x =
-      stops ws text start (symbol_at (get_or w (d - 1) 0)) (stack_of w (d - 1)) from rank topped inside
-      p place end e (looked_up symbol class p None a b x)
-
-  pub no_token_lem :
-      (r : Reason) (place : ℕ) → next_token text from ≡ no_token r place → reads start (stream_of ws text) default_rank ≡ refused place
-  no_token_lem r place e =
-      breaks ws text start (symbol_at (get_or w (d - 1) 0)) (stack_of w (d - 1)) from rank topped inside r place e
+      (p : Piece) (place end : ℕ) (class : Class) → next_token text from ≡ token p place end → class ≡ class_of (token_of ws p) →
+      None ≡ expand t class → reads start (stream_of ws text) default_rank ≡ refused place
+  refuses p place end class e b x =
+      stops ws text start t rest.symbols from rank topped inside p place end e (ap (expand t) (sym b) ∙ sym x)
 
   pub at_the_end :
-      (symbol : Symbol) (o : Option (List Symbol)) → next_token text from ≡ at_end → symbol ≡ symbol_at (get_or w (d - 1) 0) →
-      o ≡ expand symbol Class.TextEnd → reads start (stream_of ws text) default_rank ≡ ending o (length text) rank
-  at_the_end symbol o e a x =
-      ends ws text start (symbol_at (get_or w (d - 1) 0)) (stack_of w (d - 1)) from rank topped inside e
-      ∙ ap (λ (y : Symbol). ending (expand y Class.TextEnd) (length text) rank) (sym a)
-      ∙ ap (λ (y : Option (List Symbol)). ending y (length text) rank) (sym x)
+      (o : Option (List Symbol)) → next_token text from ≡ at_end → o ≡ expand t Class.TextEnd →
+      reads start (stream_of ws text) default_rank ≡ ending o (length text) rank
+  at_the_end o e x =
+      ends ws text start t rest.symbols from rank topped inside e ∙ ap (λ (y : Option (List Symbol)). ending y (length text) rank) (sym x)
+
+-- where no token stands, nothing is taken from the stack
+pub no_token_lem :
+    (ws : List Word) (text : List ℕ) (start σ : List Symbol) (from rank : ℕ) → State ws text start σ from rank → from ≤ length text →
+    (r : Reason) (place : ℕ) → next_token text from ≡ no_token r place → reads start (stream_of ws text) default_rank ≡ refused place
+no_token_lem ws text start [] from rank s inside r place e = absurd (false_true s.closed)
+no_token_lem ws text start (t ∷ σ) from rank s inside r place e = breaks ws text start t σ from rank s inside r place e
+
+-- a stack that goes on is not empty
+pub deep : (ws : List Word) (text : List ℕ) (start σ : List Symbol) (from rank : ℕ) → State ws text start σ from rank → 0 < length σ
+deep ws text start [] from rank s = absurd (false_true s.closed)
+deep ws text start (t ∷ σ) from rank s = omega arith
 
 -- what follows a token is at most five symbols
 pub few : (s : Symbol) (c : Class) (α : List Symbol) → Some α ≡ expand s c → length α ≤ 5

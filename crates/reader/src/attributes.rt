@@ -158,7 +158,7 @@ fn signature_rules(class: Class) -> &'static [Inherit]
 fn only_at(wanted: Class, class: Class) -> &'static [Inherit]
     ensures { result.now ≡ only_at wanted class }
 {
-    if class as u32 == wanted as u32 {
+    if class == wanted {
         &[Inherit::Same]
     } else {
         &[]

@@ -86,7 +86,7 @@ fn write_frame(words: &mut [u32], i: usize, symbol: Symbol, frame: Frame)
     requires { 5 * i + 5 ≤ length words.old }
     ensures { words.new ≡ five_at words.old i (symbol_number symbol) frame.inner.opened frame.inner.scope frame.outer.opened frame.outer.scope }
 {
-    words[5 * i] = symbol.number();
+    words[5 * i] = u32::from(symbol);
     words[5 * i + 1] = frame.inner.opened;
     words[5 * i + 2] = frame.inner.scope;
     words[5 * i + 3] = frame.outer.opened;
@@ -115,7 +115,7 @@ pub fn symbol_at(words: &[u32], i: usize) -> Symbol
     requires { 5 * i + 5 ≤ length words.now }
     ensures { result ≡ symbol_kept words.now i }
 {
-    Symbol::of_number(words[5 * i])
+    Symbol::from(words[5 * i])
 }
 
 // Puts the symbols that follow on the stack of frames, the first one on top, each with what it gets, and tells the new depth.

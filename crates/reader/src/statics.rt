@@ -91,7 +91,7 @@ pub fn go_through<C: Core>(
         depth = push_frames(
             frames,
             depth - 1,
-            after,
+            &after,
             rules_of(symbol, class),
             frame,
             place,

@@ -5,7 +5,7 @@ ghost use Rattle.reader.specs.Codes.{symbol_number, symbol_at};
 use crate::class::Class;
 
 // What follows a type.
-#[derive(Clone, Copy)]
+#[derive(Clone, Copy, PartialEq, Eq, Debug)]
 pub enum TypeContext {
     Items,
     Specs,
@@ -14,13 +14,13 @@ pub enum TypeContext {
 }
 
 // What follows a module.
-#[derive(Clone, Copy)]
+#[derive(Clone, Copy, PartialEq, Eq, Debug)]
 pub enum ModuleContext {
     Items,
     Bracketed,
 }
 
-#[derive(Clone, Copy)]
+#[derive(Clone, Copy, PartialEq, Eq, Debug)]
 pub enum Symbol {
     Token(Class),
     Unit,
@@ -133,12 +133,12 @@ const SYMBOLS: [Symbol; 73] = [
     Symbol::ArgumentName,
 ];
 
-impl Symbol {
-    // The number by which a symbol is kept in memory. Constant time.
-    pub fn number(self) -> u32
-        ensures { result ≡ symbol_number self }
-    {
-        match self {
+// The number by which a symbol is kept in memory. Constant time.
+impl From<Symbol> for u32 {
+    ghost from_gives = { λ symbol n. n ≡ symbol_number symbol };
+
+    fn from(symbol: Symbol) -> u32 {
+        match symbol {
             Symbol::Token(class) => class as u32,
             Symbol::Unit => 31,
             Symbol::UnitName => 32,
@@ -148,16 +148,11 @@ impl Symbol {
             Symbol::TypeItem => 36,
             Symbol::ValueItem => 37,
             Symbol::ModuleItem => 38,
-            Symbol::Module(ModuleContext::Items) => 39,
-            Symbol::Module(ModuleContext::Bracketed) => 40,
-            Symbol::Parameter(ModuleContext::Items) => 41,
-            Symbol::Parameter(ModuleContext::Bracketed) => 42,
-            Symbol::Path(ModuleContext::Items) => 43,
-            Symbol::Path(ModuleContext::Bracketed) => 44,
-            Symbol::PathName(ModuleContext::Items) => 45,
-            Symbol::PathName(ModuleContext::Bracketed) => 46,
-            Symbol::Arguments(ModuleContext::Items) => 47,
-            Symbol::Arguments(ModuleContext::Bracketed) => 48,
+            Symbol::Module(context) => 39 + context as u32,
+            Symbol::Parameter(context) => 41 + context as u32,
+            Symbol::Path(context) => 43 + context as u32,
+            Symbol::PathName(context) => 45 + context as u32,
+            Symbol::Arguments(context) => 47 + context as u32,
             Symbol::ModuleEnd => 49,
             Symbol::Argument => 50,
             Symbol::ArgumentEnd => 51,
@@ -172,34 +167,33 @@ impl Symbol {
             Symbol::Variable => 60,
             Symbol::Atom => 61,
             Symbol::PathEnd => 62,
-            Symbol::Type(TypeContext::Items) => 63,
-            Symbol::Type(TypeContext::Specs) => 64,
-            Symbol::Type(TypeContext::Closed) => 65,
-            Symbol::Type(TypeContext::Bracketed) => 66,
-            Symbol::Labels(TypeContext::Items) => 67,
-            Symbol::Labels(TypeContext::Specs) => 68,
-            Symbol::Labels(TypeContext::Closed) => 69,
-            Symbol::Labels(TypeContext::Bracketed) => 70,
+            Symbol::Type(context) => 63 + context as u32,
+            Symbol::Labels(context) => 67 + context as u32,
             Symbol::TypeEnd => 71,
             Symbol::ArgumentName => 72,
         }
     }
+}
 
-    // The symbol of a number; a number that is none stands for the first symbol. Constant time.
-    pub fn of_number(n: u32) -> Symbol
-        ensures { result ≡ symbol_at n }
-    {
-        nth(&SYMBOLS, n as usize)
+impl Default for Symbol {
+    ghost use Rattle.reader.specs.declared.class.Class.{Class};
+    ghost use Rattle.reader.specs.declared.symbol.Symbol.{Symbol};
+
+    ghost is_default = { λ symbol. symbol ≡ Symbol.Token Class.Open };
+
+    fn default() -> Symbol {
+        Symbol::Token(Class::Open)
     }
 }
 
-// The symbol at a place of a slice; behind its end, the first symbol of all. Constant time.
-fn nth(symbols: &[Symbol], n: usize) -> Symbol
-    ensures { result ≡ slice_index_or symbols.now n (Symbol.Token Class.Open) }
-{
-    if n < symbols.len() {
-        symbols[n]
-    } else {
-        Symbol::Token(Class::Open)
+// The symbol of a number; a number that is none stands for the first symbol. Constant time.
+impl From<u32> for Symbol {
+    ghost from_gives = { λ n symbol. symbol ≡ symbol_at n };
+
+    fn from(n: u32) -> Symbol {
+        SYMBOLS
+            .get(n as usize)
+            .copied()
+            .unwrap_or(Symbol::Token(Class::Open))
     }
 }

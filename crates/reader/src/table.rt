@@ -1,23 +1,24 @@
 // The grammar's table: each symbol is read by its own function.
 ghost use Rattle.std.specs.Prelude.{◌≡◌};
 ghost use Rattle.reader.specs.Grammar.{expand as expansion};
-ghost use Rattle.reader.specs.View.{shown};
+ghost use Rattle.reader.specs.View.{row_of};
 
 use super::class::Class;
+use super::grammar::Row;
 use super::symbol::Symbol;
 use super::{grammar, type_grammar};
 
 // What has to follow a token of this class where this symbol is to be read; None where the symbol cannot begin so.
 // Constant time.
-pub fn expand(symbol: Symbol, c: Class) -> Option<&'static [Symbol]>
-    ensures { shown result ≡ expansion symbol c }
+pub fn expand(symbol: Symbol, c: Class) -> Option<Row>
+    ensures { row_of result ≡ expansion symbol c }
 {
     match symbol {
         Symbol::Token(wanted) => grammar::token(wanted, c),
         Symbol::Unit => grammar::unit(c),
-        Symbol::UnitName => grammar::unit_name(c),
+        Symbol::UnitName => grammar::token(Class::Upper, c),
         Symbol::UnitEnd => grammar::unit_end(c),
-        Symbol::RankValue => grammar::rank_value(c),
+        Symbol::RankValue => grammar::token(Class::SmallInteger, c),
         Symbol::Items => grammar::items(c),
         Symbol::TypeItem => grammar::type_item(c),
         Symbol::ValueItem => grammar::value_item(c),
@@ -28,7 +29,7 @@ pub fn expand(symbol: Symbol, c: Class) -> Option<&'static [Symbol]>
         Symbol::PathName(context) => grammar::path_name(context, c),
         Symbol::Arguments(context) => grammar::arguments(context, c),
         Symbol::ModuleEnd => grammar::module_end(c),
-        Symbol::Argument => grammar::argument(c),
+        Symbol::Argument | Symbol::ArgumentName => grammar::argument(c),
         Symbol::ArgumentEnd => grammar::argument_end(c),
         Symbol::Signature => grammar::signature(c),
         Symbol::SignatureParameter => grammar::signature_parameter(c),
@@ -44,6 +45,5 @@ pub fn expand(symbol: Symbol, c: Class) -> Option<&'static [Symbol]>
         Symbol::Type(context) => type_grammar::type_start(context, c),
         Symbol::Labels(context) => type_grammar::labels(context, c),
         Symbol::TypeEnd => grammar::type_end(c),
-        Symbol::ArgumentName => grammar::argument_name(c),
     }
 }

@@ -1,7 +1,6 @@
 pub mod Complete
 pub mod Decimals
 pub mod Fronts
-pub mod Marks
 pub mod Runs
 pub mod Sound
 pub mod Steps
@@ -9,3 +8,4 @@ pub mod Survey
 pub mod Unique
 pub mod Walk
 pub mod Words
+pub mod Turns

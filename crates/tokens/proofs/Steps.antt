@@ -1,8 +1,9 @@
 -- What the lexer knows of the places as it goes from one token to the next.
-use Rattle.std.proofs.Common.{◌≡◌, ℕ, ◌+◌, ◌<◌, List, ◌++◌, length, drop, sym, refl, ap, ◌∙◌, arith, length-append, length-drop}
+use Rattle.std.proofs.Common.{◌≡◌, ℕ, ◌+◌, ◌-◌, ◌<◌, List, ◌++◌, length, drop, sym, refl, ap, ◌∙◌, arith, length-append, length-drop}
 use Rattle.std.specs.List.{prefix_len}
 use Rattle.tokens.specs.Bytes.{is_blank}
-use Rattle.tokens.specs.Lexer.{piece, token_front, found, next_token, at_end}
+use Rattle.tokens.specs.Lexer.{piece, none, token, no_token, token_front, found, next_token, at_end}
+use Rattle.tokens.specs.declared.lexer.Reason.{Reason}
 use Rattle.tokens.specs.Pieces.{Piece, written}
 use Rattle.tokens.proofs.Fronts.{only_blanks, behind_blanks}
 use Rattle.tokens.proofs.Sound.{token_stands}
@@ -20,19 +21,37 @@ none_left text bytes from blanks s empty =
     let long = ap length s.left ∙ length-drop blanks (drop from text) in
     only_blanks from (drop from text) (omega (arith, long, s.run))
 
-pub some_left : (text bytes : List ℕ) (from blanks : ℕ) → Skipped text from blanks bytes → 0 < length bytes → next_token text from ≡ found (from + blanks) (token_front bytes)
+some_left : (text bytes : List ℕ) (from blanks : ℕ) → Skipped text from blanks bytes → 0 < length bytes → next_token text from ≡ found (from + blanks) (token_front bytes)
 some_left text bytes from blanks s more =
     let long = ap length s.left ∙ length-drop blanks (drop from text) in
     behind_blanks from (drop from text) (omega (arith, long, s.run)) ∙ rw (← s.run, ← s.left) refl
 
 -- the places up to the end of the text
-pub reached : (text bytes : List ℕ) (from blanks : ℕ) → Skipped text from blanks bytes → 0 < length bytes → from + blanks + length bytes ≡ length text
+reached : (text bytes : List ℕ) (from blanks : ℕ) → Skipped text from blanks bytes → 0 < length bytes → from + blanks + length bytes ≡ length text
 reached text bytes from blanks s more =
     let long = ap length s.left ∙ length-drop blanks (drop from text) in
     omega (arith, long, length-drop from text)
 
 -- a token and what is left behind it are as long as the bytes
-pub taken : (bytes rest : List ℕ) (p : Piece) → token_front bytes ≡ piece p → rest ≡ drop (length (written p)) bytes → length (written p) + length rest ≡ length bytes
+taken : (bytes rest : List ℕ) (p : Piece) → token_front bytes ≡ piece p → rest ≡ drop (length (written p)) bytes → length (written p) + length rest ≡ length bytes
 taken bytes rest p e is =
     let whole = (token_stands bytes p e).whole in
     sym (length-append (written p) rest) ∙ ap (λ l. length (written p ++ l)) is ∙ ap length whole
+
+-- the next token, by how long the text is from its place and from its end
+pub token_found : (text bytes rest : List ℕ) (from blanks : ℕ) (p : Piece) → Skipped text from blanks bytes → 0 < length bytes → token_front bytes ≡ piece p → rest ≡ drop (length (written p)) bytes → token p (length text - length bytes) (length text - length rest) ≡ next_token text from
+token_found text bytes rest from blanks p s more e left =
+    let all = reached text bytes from blanks s more in
+    let size = taken bytes rest p e left in
+    let place : length text - length bytes ≡ from + blanks = omega arith in
+    let end : length text - length rest ≡ from + blanks + length (written p) = omega arith in
+    ap (λ n. token p n (length text - length rest)) place
+    ∙ ap (token p (from + blanks)) end
+    ∙ sym (some_left text bytes from blanks s more ∙ ap (found (from + blanks)) e)
+
+-- and the place where none stands
+pub none_found : (text bytes : List ℕ) (from blanks : ℕ) (r : Reason) → Skipped text from blanks bytes → 0 < length bytes → token_front bytes ≡ none r → no_token r (length text - length bytes) ≡ next_token text from
+none_found text bytes from blanks r s more e =
+    let all = reached text bytes from blanks s more in
+    let place : length text - length bytes ≡ from + blanks = omega arith in
+    ap (no_token r) place ∙ sym (some_left text bytes from blanks s more ∙ ap (found (from + blanks)) e)

@@ -1,5 +1,6 @@
 -- The classes of bytes, by their numbers.
-use Rattle.std.specs.Prelude.{ℕ, Bool, cond, ◌&&◌, ◌||◌, ◌==◌, nat_le}
+use Rattle.std.specs.Prelude.{◌≡◌, ℕ, ◌≤◌, Bool, cond, ◌&&◌, ◌||◌, ◌==◌, nat_le, List, take, drop}
+use Rattle.std.specs.Borrow.{Bor}
 use Rattle.tokens.specs.declared.bytes.Class.{Class}
 use Rattle.tokens.specs.declared.bytes.Class.TheVariants.{Blank, Lower, Upper, Digit, Underscore, Other}
 use Rattle.tokens.specs.declared.bytes.Run.{Run}
@@ -40,3 +41,7 @@ abbrev pub goes_on : Run → ℕ → Bool
 goes_on Blanks = is_blank
 goes_on Name = is_name_byte
 goes_on Digits = is_digit
+
+-- a run of n bytes is within the limit, and these are the run and what is left behind it
+abbrev pub SplitsRun : ℕ → ℕ → List ℕ → Bor (List ℕ) × Bor (List ℕ) → Type 0
+SplitsRun n limit bs x = (n ≤ limit) × (x.0.now ≡ take n bs) × (x.1.now ≡ drop n bs)

@@ -1,5 +1,5 @@
 -- The lexer as a definition: what stands at the front of a text, and the next token of it.
-use Rattle.std.specs.Prelude.{◌≡◌, ℕ, suc, ◌+◌, Bool, true, false, cond, ◌&&◌, List, [], ◌∷◌, length, take, drop, Some, None, Ok, Err, Option, Result, ◌==◌, nat_le, slice_index}
+use Rattle.std.specs.Prelude.{◌≡◌, ℕ, suc, ◌+◌, Bool, cond, ◌&&◌, List, [], ◌∷◌, length, take, drop, Some, None, Ok, Err, Option, Result, ◌==◌, nat_le, slice_index}
 use Rattle.std.specs.Borrow.{Bor}
 use Rattle.std.specs.List.{prefix_len}
 use Rattle.tokens.specs.Bytes.{is_blank, is_lower, is_letter, is_digit, is_name_byte}
@@ -35,11 +35,6 @@ is_arrow bs = slice_index bs 0 == 45 && slice_index bs 1 == 62
 -- the mark at the front
 abbrev pub mark_of : List ℕ → Option Mark
 mark_of bs = cond (is_attribute bs) (Some OpenAttribute) (cond (is_arrow bs) (Some Arrow) (single_mark (slice_index bs 0)))
-
--- what the code hands out behind the first n bytes, if the test holds of them
-abbrev pub Behind : Bool → ℕ → List ℕ → Option (Bor (List ℕ)) → Type 0
-Behind test n bs None = test ≡ false
-Behind test n bs (Some x) = (test ≡ true) × (x.now ≡ drop n bs)
 
 -- what the code says of the mark at the front, with what is left behind it
 abbrev pub MarkAt : List ℕ → Option (Mark × Bor (List ℕ)) → Type 0

@@ -4,3 +4,4 @@ pub mod Pieces
 pub mod Lexer
 pub mod Integers
 pub mod Counting
+pub mod Tokens

@@ -1,10 +1,10 @@
 // What a single byte of a text can be.
-ghost use Rattle.std.specs.Prelude.{◌≡◌, ◌≤◌, length};
+ghost use Rattle.std.specs.Prelude.{◌≡◌, ◌≤◌, ◌<◌, length, MatchOption};
 ghost use Rattle.std.specs.List.{prefix_len};
-ghost use Rattle.tokens.specs.Bytes.{class, goes_on};
+ghost use Rattle.tokens.specs.Bytes.{class, goes_on, SplitsRun};
 
 // The kinds of bytes that the lexer tells apart.
-#[derive(Clone, Copy)]
+#[derive(Clone, Copy, PartialEq, Eq, Debug)]
 pub enum Class {
     Blank,
     Lower,
@@ -15,21 +15,23 @@ pub enum Class {
 }
 
 // The class of a byte. Constant time.
-pub fn class_of(b: u8) -> Class
-    ensures { result ≡ class b }
-{
-    match b {
-        b' ' | b'\t' | b'\n' | b'\r' => Class::Blank,
-        b'a'..=b'z' => Class::Lower,
-        b'A'..=b'Z' => Class::Upper,
-        b'0'..=b'9' => Class::Digit,
-        b'_' => Class::Underscore,
-        _ => Class::Other,
+impl From<u8> for Class {
+    ghost from_gives = { λ b r. r ≡ class b };
+
+    fn from(b: u8) -> Class {
+        match b {
+            b' ' | b'\t' | b'\n' | b'\r' => Class::Blank,
+            b'a'..=b'z' => Class::Lower,
+            b'A'..=b'Z' => Class::Upper,
+            b'0'..=b'9' => Class::Digit,
+            b'_' => Class::Underscore,
+            _ => Class::Other,
+        }
     }
 }
 
 // The runs of bytes that go as far as they can.
-#[derive(Clone, Copy)]
+#[derive(Clone, Copy, PartialEq, Eq, Debug)]
 pub enum Run {
     Blanks,
     Name,
@@ -42,12 +44,12 @@ impl Run {
         ensures { result ≡ goes_on self b }
     {
         match self {
-            Run::Blanks => matches!(class_of(b), Class::Blank),
+            Run::Blanks => matches!(Class::from(b), Class::Blank),
             Run::Name => matches!(
-                class_of(b),
+                Class::from(b),
                 Class::Lower | Class::Upper | Class::Digit | Class::Underscore
             ),
-            Run::Digits => matches!(class_of(b), Class::Digit),
+            Run::Digits => matches!(Class::from(b), Class::Digit),
         }
     }
 
@@ -56,10 +58,14 @@ impl Run {
         ensures value { result ≡ prefix_len (goes_on self) bytes.now }
         ensures bound { result ≤ length bytes.now }
     {
-        let mut n = 0;
-        while n < bytes.len() && self.takes(bytes[n]) {
-            n += 1;
-        }
-        n
+        bytes.iter().take_while(|b| self.takes(**b)).count()
+    }
+
+    // The run at the front and what is left behind it, if it has at most so many bytes. Linear in the run.
+    pub fn split(self, bytes: &[u8], limit: usize) -> Option<(&[u8], &[u8])>
+        ensures { MatchOption result (limit < prefix_len (goes_on self) bytes.now) (SplitsRun (prefix_len (goes_on self) bytes.now) limit bytes.now) }
+    {
+        let n = self.length(bytes);
+        (n <= limit).then(|| bytes.split_at(n))
     }
 }

@@ -3,11 +3,11 @@ ghost use Rattle.std.specs.Prelude.{◌≡◌, ◌+◌, ◌^◌, ◌<◌};
 ghost use Rattle.tokens.specs.Counting.{more, total, Surveyed};
 ghost use Rattle.tokens.specs.Lexer.{view};
 
-use super::lexer::{LexFault, next};
+use super::lexer::{LexFault, Tokens};
 use super::token::Token;
 
 // How many tokens of each kind a text has.
-#[derive(Clone, Copy)]
+#[derive(Clone, Copy, PartialEq, Eq, Debug, Default)]
 pub struct Counts {
     pub marks: usize,
     pub keywords: usize,
@@ -39,17 +39,9 @@ impl Counts {
 pub fn count_tokens(text: &[u8]) -> Result<Counts, LexFault>
     ensures { Surveyed text.now result }
 {
-    let mut counts = Counts {
-        marks: 0,
-        keywords: 0,
-        lowers: 0,
-        uppers: 0,
-        integers: 0,
-    };
-    let mut from = 0;
-    while let Some(found) = next(text, from)? {
-        counts = counts.and(found.token);
-        from = found.end;
+    let mut counts = Counts::default();
+    for found in Tokens::new(text) {
+        counts = counts.and(found?.token);
     }
     Ok(counts)
 }

@@ -2,9 +2,9 @@
 ghost use Rattle.std.specs.Prelude.{◌≡◌, drop, None};
 ghost use Rattle.std.specs.List.{prefix_len};
 ghost use Rattle.tokens.specs.Bytes.{is_digit, is_name_byte};
-ghost use Rattle.tokens.specs.Lexer.{single_mark, is_attribute, is_arrow, Behind, MarkAt, word, name_front, integer_front, token_front, TokenAt, view, told, next_token, fault_number};
+ghost use Rattle.tokens.specs.Lexer.{MarkAt, word, name_front, integer_front, token_front, TokenAt, view, told, next_token, fault_number};
 
-use super::bytes::{Class, Run, class_of};
+use super::bytes::{Class, Run};
 use super::token::{Mark, Token, keyword_of};
 
 // The longest name, in bytes.
@@ -28,14 +28,14 @@ pub enum Reason {
 }
 
 // A place of a text where no token stands: its first byte, counted from 0.
-#[derive(Clone, Copy)]
+#[derive(Clone, Copy, PartialEq, Eq, Debug)]
 pub struct LexFault {
     pub reason: Reason,
     pub place: usize,
 }
 
 // A token with the place of its first byte, and the place right behind its last one.
-#[derive(Clone, Copy)]
+#[derive(Clone, Copy, PartialEq, Eq, Debug)]
 pub struct Placed<'a> {
     pub token: Token<'a>,
     pub place: usize,
@@ -51,58 +51,21 @@ impl LexFault {
     }
 }
 
-// The mark that one byte is, if it is one. Constant time.
-fn single_mark(b: u8) -> Option<Mark>
-    ensures { result ≡ single_mark b }
-{
-    match b {
-        b'(' => Some(Mark::Open),
-        b')' => Some(Mark::Close),
-        b':' => Some(Mark::Colon),
-        b'=' => Some(Mark::Equals),
-        b',' => Some(Mark::Comma),
-        b'.' => Some(Mark::Dot),
-        b']' => Some(Mark::CloseAttribute),
-        _ => None,
-    }
-}
-
-// What is left behind `[@@`, if the bytes begin so. Constant time.
-fn behind_attribute(bytes: &[u8]) -> Option<&[u8]>
-    ensures { Behind (is_attribute bytes.now) 3 bytes.now result }
-{
-    match bytes {
-        [b'[', b'@', b'@', rest @ ..] => Some(rest),
-        _ => None,
-    }
-}
-
-// What is left behind `->`, if the bytes begin so. Constant time.
-fn behind_arrow(bytes: &[u8]) -> Option<&[u8]>
-    ensures { Behind (is_arrow bytes.now) 2 bytes.now result }
-{
-    match bytes {
-        [b'-', b'>', rest @ ..] => Some(rest),
-        _ => None,
-    }
-}
-
 // The mark at the front, and what is left behind it. Constant time.
 fn mark_at(bytes: &[u8]) -> Option<(Mark, &[u8])>
     ensures { MarkAt bytes.now result }
 {
-    if let Some(rest) = behind_attribute(bytes) {
-        return Some((Mark::OpenAttribute, rest));
-    }
-    if let Some(rest) = behind_arrow(bytes) {
-        return Some((Mark::Arrow, rest));
-    }
-    let [b, rest @ ..] = bytes else {
-        return None;
-    };
-    match single_mark(*b) {
-        Some(m) => Some((m, rest)),
-        None => None,
+    match bytes {
+        [b'[', b'@', b'@', rest @ ..] => Some((Mark::OpenAttribute, rest)),
+        [b'-', b'>', rest @ ..] => Some((Mark::Arrow, rest)),
+        [b'(', rest @ ..] => Some((Mark::Open, rest)),
+        [b')', rest @ ..] => Some((Mark::Close, rest)),
+        [b':', rest @ ..] => Some((Mark::Colon, rest)),
+        [b'=', rest @ ..] => Some((Mark::Equals, rest)),
+        [b',', rest @ ..] => Some((Mark::Comma, rest)),
+        [b'.', rest @ ..] => Some((Mark::Dot, rest)),
+        [b']', rest @ ..] => Some((Mark::CloseAttribute, rest)),
+        _ => None,
     }
 }
 
@@ -110,11 +73,7 @@ fn mark_at(bytes: &[u8]) -> Option<(Mark, &[u8])>
 fn name_at(bytes: &[u8]) -> Result<(Token<'_>, &[u8]), Reason>
     ensures { TokenAt (name_front (prefix_len is_name_byte bytes.now) bytes.now) bytes.now result }
 {
-    let n = Run::Name.length(bytes);
-    if n > NAME_LIMIT {
-        return Err(Reason::LongName);
-    }
-    let (name, rest) = bytes.split_at(n);
+    let (name, rest) = Run::Name.split(bytes, NAME_LIMIT).ok_or(Reason::LongName)?;
     match keyword_of(name) {
         Some(k) => Ok((Token::Keyword(k), rest)),
         None => Ok((cased(name), rest)),
@@ -135,11 +94,9 @@ fn cased(name: &[u8]) -> Token<'_>
 fn integer_at(bytes: &[u8]) -> Result<(Token<'_>, &[u8]), Reason>
     ensures { TokenAt (integer_front (prefix_len is_digit bytes.now) bytes.now) bytes.now result }
 {
-    let n = Run::Digits.length(bytes);
-    if n > INTEGER_LIMIT {
-        return Err(Reason::LongInteger);
-    }
-    let (digits, rest) = bytes.split_at(n);
+    let (digits, rest) = Run::Digits
+        .split(bytes, INTEGER_LIMIT)
+        .ok_or(Reason::LongInteger)?;
     Ok((Token::Integer(digits), rest))
 }
 
@@ -150,7 +107,7 @@ fn token_at(bytes: &[u8]) -> Result<(Token<'_>, &[u8]), Reason>
     let [b, ..] = bytes else {
         return Err(Reason::Byte);
     };
-    match class_of(*b) {
+    match Class::from(*b) {
         Class::Lower | Class::Upper => name_at(bytes),
         Class::Digit => integer_at(bytes),
         _ => match mark_at(bytes) {
@@ -160,31 +117,60 @@ fn token_at(bytes: &[u8]) -> Result<(Token<'_>, &[u8]), Reason>
     }
 }
 
-// What lies behind the first n bytes; nothing where there are no more. Constant time.
-fn after(bytes: &[u8], n: usize) -> &[u8]
-    ensures { result.now ≡ drop n bytes.now }
-{
-    if n < bytes.len() { &bytes[n..] } else { &[] }
-}
-
 // The first token at or behind a place, blanks skipped; None where only blanks are left or the place is behind the end.
 // Each byte from the place to the token's end is looked at a constant number of times.
 pub fn next(text: &[u8], from: usize) -> Result<Option<Placed<'_>>, LexFault>
     ensures { told result ≡ next_token text.now from }
 {
-    let ahead = after(text, from);
-    let blanks = Run::Blanks.length(ahead);
-    let bytes = after(ahead, blanks);
+    let ahead = text.get(from..).unwrap_or(&[]);
+    let (_, bytes) = ahead.split_at(Run::Blanks.length(ahead));
     if bytes.is_empty() {
         return Ok(None);
     }
-    let place = from + blanks;
+    let place = text.len() - bytes.len();
     match token_at(bytes) {
         Ok((token, rest)) => Ok(Some(Placed {
             token,
             place,
-            end: place + (bytes.len() - rest.len()),
+            end: text.len() - rest.len(),
         })),
         Err(reason) => Err(LexFault { reason, place }),
+    }
+}
+
+// The tokens of a text one behind the other; behind the first place where none stands it gives nothing more.
+#[derive(Clone, Debug, Drop)]
+pub struct Tokens<'a> {
+    text: &'a [u8],
+    from: usize,
+}
+
+impl<'a> Tokens<'a> {
+    // All tokens of a text. Constant time.
+    pub fn new(text: &'a [u8]) -> Tokens<'a>
+        ensures { (result.text ≡ text.entry) × (result.from ≡ 0) }
+    {
+        Tokens { text, from: 0 }
+    }
+}
+
+impl<'a> Iterator for Tokens<'a> {
+    ghost use Rattle.std.specs.Prelude.{◌-◌, length};
+    ghost use Rattle.std.specs.Iterator.{at_most};
+    ghost use Rattle.tokens.specs.Tokens.{GivesNext};
+
+    type Item = Result<Placed<'a>, LexFault>;
+
+    ghost next_gives = { GivesNext };
+
+    ghost remaining = { λ s. at_most (length s.text.now - s.from) };
+
+    fn next(&mut self) -> Option<Result<Placed<'a>, LexFault>> {
+        let found = next(self.text, self.from).transpose()?;
+        self.from = match found {
+            Ok(x) => x.end,
+            Err(_) => self.text.len(),
+        };
+        Some(found)
     }
 }

@@ -33,7 +33,7 @@ pub enum Keyword {
 }
 
 // A token; names and integers are the bytes of the text that spell them.
-#[derive(Clone, Copy)]
+#[derive(Clone, Copy, PartialEq, Eq, Debug)]
 pub enum Token<'a> {
     Mark(Mark),
     Keyword(Keyword),
@@ -53,27 +53,17 @@ pub fn same_bytes(a: &[u8], b: &[u8]) -> bool
 pub fn keyword_of(name: &[u8]) -> Option<Keyword>
     ensures { result ≡ keyword_of name.now }
 {
-    if same_bytes(name, b"module") {
-        Some(Keyword::Module)
-    } else if same_bytes(name, b"struct") {
-        Some(Keyword::Struct)
-    } else if same_bytes(name, b"sig") {
-        Some(Keyword::Sig)
-    } else if same_bytes(name, b"end") {
-        Some(Keyword::End)
-    } else if same_bytes(name, b"functor") {
-        Some(Keyword::Functor)
-    } else if same_bytes(name, b"type") {
-        Some(Keyword::Type)
-    } else if same_bytes(name, b"val") {
-        Some(Keyword::Val)
-    } else if same_bytes(name, b"let") {
-        Some(Keyword::Let)
-    } else if same_bytes(name, b"fun") {
-        Some(Keyword::Fun)
-    } else if same_bytes(name, b"rank") {
-        Some(Keyword::Rank)
-    } else {
-        None
+    match name {
+        b"module" => Some(Keyword::Module),
+        b"struct" => Some(Keyword::Struct),
+        b"sig" => Some(Keyword::Sig),
+        b"end" => Some(Keyword::End),
+        b"functor" => Some(Keyword::Functor),
+        b"type" => Some(Keyword::Type),
+        b"val" => Some(Keyword::Val),
+        b"let" => Some(Keyword::Let),
+        b"fun" => Some(Keyword::Fun),
+        b"rank" => Some(Keyword::Rank),
+        _ => None,
     }
 }

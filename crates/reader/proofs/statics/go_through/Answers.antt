@@ -1,4 +1,4 @@
-use Rattle.std.proofs.Common.{◌≡◌, ℕ, ◌-◌, Bool, ◌&&◌, leb, Option, length, List, [], ◌++◌, take, Ok, sym, ap, ◌∙◌, subst, arith}
+use Rattle.std.proofs.Common.{◌≡◌, ℕ, ◌-◌, Bool, ◌&&◌, leb, Option, length, List, [], ◌++◌, take, Some, Ok, sym, ap, ◌∙◌, subst, arith}
 use Rattle.tokens.specs.Lexer.{view, token, told, next_token}
 use Rattle.tokens.proofs.Walk.{advance}
 use Rattle.reader.specs.declared.class.Class.{Class}
@@ -124,7 +124,7 @@ push_frames-depth-requires g c =
     let i = c.tokens.invariant in
     let now = here g (goal.at.push_frames-depth-requires g c).In-Some in
     let adv = advance c.args.text.now c.tokens.from c.in-Some.found.place c.in-Some.found.end (view c.in-Some.found.token) now in
-    let r = room_after g.C.Core.words c.args.text.now (symbols_of c.begin-depth.new.frames c.begin-depth.result) c.tokens.frames c.tokens.depth c.tokens.from i.4.0 i.4.1 i.1 i.0 ok (view c.in-Some.found.token) c.in-Some.found.place c.in-Some.found.end c.symbol_at-symbol.result c.class_of-class.result now c.symbol_at-symbol.ensures c.class_of-class.ensures c.in-Some-expand.after.now c.in-Some-expand.ensures in
+    let r = room_after g.C.Core.words c.args.text.now (symbols_of c.begin-depth.new.frames c.begin-depth.result) c.tokens.frames c.tokens.depth c.tokens.from i.4.0 i.4.1 i.1 i.0 ok (view c.in-Some.found.token) c.in-Some.found.place c.in-Some.found.end c.symbol_at-symbol.result c.class_of-class.result now c.symbol_at-symbol.ensures c.class_of-class.ensures c.in-Some-expand.after.items c.in-Some-expand.ensures in
     let s = small_place g.C.Core.words c.args.text.now (symbols_of c.begin-depth.new.frames c.begin-depth.result) c.tokens.frames c.tokens.depth c.tokens.from i.4.0 i.4.1 i.1 i.0 ok c.args.asked (begun_notes g.C.Core.words c.args.text.now c.args.row.now c.begin-depth.new.frames c.begin-depth.result) c.tokens.row c.tokens.count c.tokens.firsts (take c.tokens.heads c.tokens.places) i.5 c.symbol_at-symbol.result c.class_of-class.result c.frame_at-frame.result c.place_of-place.result c.frame_at-frame.ensures c.place_of-place.ensures in
     record {
       after_in_bounds = omega (arith, r, adv.inside, c.requires.text_len_bound, c.requires.frames_len, c.tokens.auto.frames, c.begin-depth.auto);
@@ -141,15 +141,16 @@ pub tokens-preserved : goal.tokens-preserved
 tokens-preserved g c =
     let ok = ok_of g.C.Core.words c.args.text.now c.begin-depth.new.frames c.begin-depth.result c.args.start c.begin-depth.ensures.symbols c.requires.accepted in
     let i = c.tokens.invariant in
+    let row = ap Some c.deref.ensures.0 ∙ c.in-Some-expand.ensures in
     let now = here g (goal.at.tokens-preserved g c).In-Some in
     let adv = advance c.args.text.now c.tokens.from c.in-Some.found.place c.in-Some.found.end (view c.in-Some.found.token) now in
-    let s = next_state g.C.Core.words c.args.text.now (symbols_of c.begin-depth.new.frames c.begin-depth.result) c.tokens.frames c.tokens.depth c.tokens.from i.4.0 i.4.1 i.1 i.0 ok (view c.in-Some.found.token) c.in-Some.found.place c.in-Some.found.end c.symbol_at-symbol.result c.class_of-class.result now c.symbol_at-symbol.ensures c.class_of-class.ensures c.in-Some-expand.after.now c.in-Some-expand.ensures in
+    let s = next_state g.C.Core.words c.args.text.now (symbols_of c.begin-depth.new.frames c.begin-depth.result) c.tokens.frames c.tokens.depth c.tokens.from i.4.0 i.4.1 i.1 i.0 ok (view c.in-Some.found.token) c.in-Some.found.place c.in-Some.found.end c.symbol_at-symbol.result c.class_of-class.result now c.symbol_at-symbol.ensures c.class_of-class.ensures c.deref.result.now row in
     let syms = c.push_frames-depth.ensures.symbols in
     let s' = subst (λ (x : List Symbol). State g.C.Core.words c.args.text.now (symbols_of c.begin-depth.new.frames c.begin-depth.result) x c.in-Some.found.end (learn (symbol_kept c.tokens.frames (c.tokens.depth - 1)) (token_of g.C.Core.words (view c.in-Some.found.token)) c.tokens.invariant.4.0)) (sym syms) s in
-    let r = room_after g.C.Core.words c.args.text.now (symbols_of c.begin-depth.new.frames c.begin-depth.result) c.tokens.frames c.tokens.depth c.tokens.from i.4.0 i.4.1 i.1 i.0 ok (view c.in-Some.found.token) c.in-Some.found.place c.in-Some.found.end c.symbol_at-symbol.result c.class_of-class.result now c.symbol_at-symbol.ensures c.class_of-class.ensures c.in-Some-expand.after.now c.in-Some-expand.ensures in
+    let r = room_after g.C.Core.words c.args.text.now (symbols_of c.begin-depth.new.frames c.begin-depth.result) c.tokens.frames c.tokens.depth c.tokens.from i.4.0 i.4.1 i.1 i.0 ok (view c.in-Some.found.token) c.in-Some.found.place c.in-Some.found.end c.symbol_at-symbol.result c.class_of-class.result now c.symbol_at-symbol.ensures c.class_of-class.ensures c.deref.result.now row in
     let deep = sealed_frames c.push_frames-depth.new.words c.push_frames-depth.result s'.closed in
     let en = c.enter-entered.ensures in
-    let n = next_noting g.C.Core.words c.args.text.now (symbols_of c.begin-depth.new.frames c.begin-depth.result) c.tokens.frames c.tokens.depth c.tokens.from i.4.0 i.4.1 i.1 i.0 ok c.args.asked (begun_notes g.C.Core.words c.args.text.now c.args.row.now c.begin-depth.new.frames c.begin-depth.result) c.tokens.row c.tokens.count c.tokens.firsts (take c.tokens.heads c.tokens.places) i.5 (view c.in-Some.found.token) c.in-Some.found.place c.in-Some.found.end c.symbol_at-symbol.result c.class_of-class.result now c.symbol_at-symbol.ensures c.class_of-class.ensures c.in-Some-expand.after.now c.in-Some-expand.ensures c.frame_at-frame.result c.place_of-place.result c.frame_at-frame.ensures c.place_of-place.ensures
+    let n = next_noting g.C.Core.words c.args.text.now (symbols_of c.begin-depth.new.frames c.begin-depth.result) c.tokens.frames c.tokens.depth c.tokens.from i.4.0 i.4.1 i.1 i.0 ok c.args.asked (begun_notes g.C.Core.words c.args.text.now c.args.row.now c.begin-depth.new.frames c.begin-depth.result) c.tokens.row c.tokens.count c.tokens.firsts (take c.tokens.heads c.tokens.places) i.5 (view c.in-Some.found.token) c.in-Some.found.place c.in-Some.found.end c.symbol_at-symbol.result c.class_of-class.result now c.symbol_at-symbol.ensures c.class_of-class.ensures c.deref.result.now row c.frame_at-frame.result c.place_of-place.result c.frame_at-frame.ensures c.place_of-place.ensures
     c.span-name.result c.span-name.ensures c.part-spelled.result.now c.part-spelled.ensures c.enter-entered.new.row c.enter-entered.result.scope c.enter-entered.result.count c.after-firsts.result (take c.list_place-heads.result c.list_place-heads.new.places)
     (subst (λ b. EnteredRow c.tokens.row c.enter-entered.new.row c.tokens.count b c.place_of-place.result.scope c.span-name.result.0 c.span-name.result.1 c.enter-entered.result.scope c.enter-entered.result.count) c.introduced.ensures en)
     (after_note c.tokens.firsts.deep c.in-Some.found.place c.after-firsts.ensures.deep c.note_of-note.ensures.deep)
@@ -158,7 +159,7 @@ tokens-preserved g c =
     (after_note c.tokens.firsts.mention c.in-Some.found.place c.after-firsts.ensures.mention (ap (λ (b : Bool). b && leb c.args.asked c.in-Some.found.place) c.note_of-note.ensures.unit))
     (c.list_place-heads.ensures.places ∙ ap (λ b. listed (take c.tokens.heads c.tokens.places) b c.in-Some.found.place) c.note_of-note.ensures.unit)
     c.push_frames-depth.new.words c.push_frames-depth.result syms
-    (c.push_frames-depth.ensures.attrs ∙ ap (λ rs. inherits c.in-Some-expand.after.now rs (attr_of c.frame_at-frame.result) (placed c.place_of-place.result) c.enter-entered.result.scope ++ attrs_of c.tokens.frames (c.tokens.depth - 1)) c.rules_of.ensures) in
+    (c.push_frames-depth.ensures.attrs ∙ ap (λ rs. inherits c.deref.result.now rs (attr_of c.frame_at-frame.result) (placed c.place_of-place.result) c.enter-entered.result.scope ++ attrs_of c.tokens.frames (c.tokens.depth - 1)) c.rules_of.ensures) in
     (adv.inside, deep, omega (arith, r, c.push_frames-depth.ensures.depth), n.few, ((learn (symbol_kept c.tokens.frames (c.tokens.depth - 1)) (token_of g.C.Core.words (view c.in-Some.found.token)) c.tokens.invariant.4.0), s'), n, omega (arith, c.list_place-heads.ensures.few, adv.forward, i.6))
 
 pub symbol_at-last-requires : goal.symbol_at-last-requires

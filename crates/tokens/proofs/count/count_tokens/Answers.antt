@@ -1,35 +1,30 @@
-use Rattle.std.proofs.Common.{◌≡◌, Ok, sym, ap, ◌∙◌, subst, arith}
+use Rattle.std.proofs.Common.{arith}
 use Rattle.std.proofs.lemmas.Result.{err_from_is_err_and}
-use Rattle.tokens.specs.Lexer.{view, token, told, next_token}
-use Rattle.tokens.proofs.Survey.{Sofar, room, again, whole, stopped}
-use Rattle.tokens.proofs.Walk.{Advance, advance}
+use Rattle.tokens.proofs.Survey.{room, again, whole, stopped}
+use Rattle.tokens.proofs.Turns.{Turn, turn, turn_fault, turn_end}
 use Rattle.tokens.proofs.count.count_tokens.Goals as goal
-use Rattle.tokens.proofs.count.count_tokens.Goals.{In-Some}
+use Rattle.tokens.proofs.count.count_tokens.Goals.{In_ok-found}
 
--- the token of this turn is the next one of the text
-here : (c : In-Some) → next_token c.args.text.now c.loop-found.from ≡ token (view c.in-Some.found.token) c.in-Some.found.place c.in-Some.found.end
-here c = sym c.in_ok-found.ensures ∙ ap (λ o. told (Ok o)) c.in-Some.is
-
-step : (c : In-Some) → Advance c.args.text.now c.loop-found.from (view c.in-Some.found.token) c.in-Some.found.end
-step c = advance _ _ _ _ _ (here c)
+-- the token of this turn
+here : (c : In_ok-found) → Turn c.args.text.now c.loop-found.found-iterator c.next.new.self c.in_ok-found.field-0
+here c = turn _ _ _ _ _ _ c.loop-found.invariant.same_text c.next.ensures.steps c.in-Some.is c.in_ok-found.was
 
 pub returns-in_err-found : goal.returns-in_err-found
 returns-in_err-found c =
     let p = err_from_is_err_and c.from_residual.result c.from_residual.ensures.1 in
-    rw (p.1, p.2) (stopped _ _ _ _ _ c.loop-found.invariant.1 (sym c.in_err-found.ensures))
+    let stop = turn_fault _ _ _ _ _ _ c.loop-found.invariant.same_text c.next.ensures.steps c.in-Some.is c.in_err-found.was in
+    rw (p.1, p.2) (stopped _ _ _ _ _ c.loop-found.invariant.sofar stop)
 
 pub and-counts-requires : goal.and-counts-requires
-and-counts-requires c = omega (arith, room _ _ _ _ _ _ c.loop-found.invariant.1 (here (goal.at.and-counts-requires c).In-Some))
-
-pub loop-found-smaller : goal.loop-found-smaller
-loop-found-smaller c =
-    let s = step (goal.at.loop-found-smaller c).In-Some in
-    omega (arith, s.forward, s.inside)
+and-counts-requires c = omega (arith, room _ _ _ _ _ _ c.loop-found.invariant.sofar (here (goal.at.and-counts-requires c).In_ok-found).next)
 
 pub loop-found-preserved : goal.loop-found-preserved
 loop-found-preserved c =
-    let at = (goal.at.loop-found-preserved c).In-Some in
-    ((step at).inside, subst (Sofar c.args.text.now c.in-Some.found.end) (sym c.and-counts.ensures) (again _ _ _ _ _ _ c.loop-found.invariant.1 (here at)))
+    let t = here (goal.at.loop-found-preserved c).In_ok-found in
+    record {
+      same_text = t.same_text;
+      sofar = rw (t.behind, c.and-counts.ensures) (again _ _ _ _ _ _ c.loop-found.invariant.sofar t.next);
+    }
 
 pub returns : goal.returns
-returns c = whole _ _ _ c.loop-found.invariant.1 (sym c.in_ok-found.ensures ∙ ap (λ o. told (Ok o)) c.in_default.is)
+returns c = whole _ _ _ c.loop-found.invariant.sofar (turn_end _ _ _ _ c.loop-found.invariant.same_text c.next.ensures.steps c.in-None.is)

@@ -11,7 +11,7 @@ returns-in_default c =
 
 pub returns-in-Lower : goal.returns-in-Lower
 returns-in-Lower c =
-    let is = sym c.class_of.ensures in
+    let is = sym c.from.ensures in
     let letter = letter_front c.args.bytes.now (⊎_elim (λ e. inl (is ∙ e)) (λ e. inr (is ∙ e)) c.in-Lower.is) in
     subst (λ f. TokenAt f c.args.bytes.now c.name_at.result) (sym letter) c.name_at.ensures
 
@@ -22,7 +22,7 @@ returns-in-Digit c =
 
 pub returns-in-None : goal.returns-in-None
 returns-in-None c =
-    let is = c.class_of.ensures in
-    let other = c.in_default-class_of in
+    let is = c.from.ensures in
+    let other = c.in_default-from in
     mark_front_lem c.args.bytes.now (λ e. other.not-Lower (is ∙ e)) (λ e. other.not-Upper (is ∙ e)) (λ e. other.not-Digit (is ∙ e))
     ∙ ap mark_front c.in-None.ensures
