@@ -13,7 +13,7 @@ use super::fault::{Fault, Question};
 use super::loading::Naming;
 use cores::interface::Core;
 use order::{Fault as Unarranged, MOST, Unit};
-use reader::read::{SCRATCH_WORDS, head_name, unit_heads};
+use reader::read::{SCRATCH_WORDS, Start, head_name, heads_of};
 use std::array;
 use store::directory::Directory;
 use store::entry::{BLANK, Entry};
@@ -111,7 +111,7 @@ impl<'a> Stored<'a> {
         ensures { NamingOf (stored self.now.store.now) (unit_at (units_of self.now.store.now) i).text (heads_of C.Core.words (unit_at (units_of self.now.store.now) i).text) result }
     {
         let text = self.text(i);
-        let heads = unit_heads(core, text, scratch).unwrap_or(&[]);
+        let heads = heads_of(core, text, scratch, Start::Unit).unwrap_or(&[]);
         self.heads_named(text, heads)
     }
 

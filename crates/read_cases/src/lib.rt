@@ -8,8 +8,7 @@ mod tests {
     use cores::mini_ml::MiniMl;
     use reader::fault::ReadFault;
     use reader::read::{
-        SCRATCH_WORDS, head_name, mentioned_unit, read_signature, read_unit, signature_heads,
-        unit_heads,
+        SCRATCH_WORDS, Start, head_name, heads_of, mentioned_unit, read_signature, read_unit,
     };
     use std::test::Fail;
 
@@ -62,12 +61,12 @@ mod tests {
 
     // That of a unit's text over the first core.
     fn listed(text: &[u8], scratch: &mut [u32], i: usize) -> (usize, Option<usize>, Option<u8>) {
-        one_of(text, unit_heads(&MiniMl, text, scratch), i)
+        one_of(text, heads_of(&MiniMl, text, scratch, Start::Unit), i)
     }
 
     // That of the text of a signature.
     fn signed(text: &[u8], scratch: &mut [u32], i: usize) -> (usize, Option<usize>, Option<u8>) {
-        one_of(text, signature_heads(&MiniMl, text, scratch), i)
+        one_of(text, heads_of(&MiniMl, text, scratch, Start::Signature), i)
     }
 
     #[test]

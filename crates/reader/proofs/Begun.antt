@@ -1,7 +1,6 @@
 -- The second pass as it begins.
-use Rattle.std.proofs.Common.{◌≡◌, ℕ, suc, ◌*◌, ◌<◌, ◌≤◌, true, List, [], ◌++◌, length, None, Option, Result, sym, refl, ap, ◌∙◌, subst, append-nil, arith}
+use Rattle.std.proofs.Common.{◌≡◌, ℕ, suc, ◌*◌, ◌<◌, ◌≤◌, true, List, [], ◌++◌, length, None, sym, refl, ap, ◌∙◌, subst, append-nil, arith}
 use Rattle.cores.specs.Meaning.{Word}
-use Rattle.reader.specs.declared.fault.ReadFault.{ReadFault}
 use Rattle.reader.specs.declared.notes.Firsts.{Firsts}
 use Rattle.reader.specs.declared.parse.Start.{Start}
 use Rattle.reader.specs.declared.symbol.Symbol.{Symbol}
@@ -9,10 +8,10 @@ use Rattle.reader.specs.Parsing.{start_of, is_accepted}
 use Rattle.reader.specs.Reading.{reads, default_rank}
 use Rattle.reader.specs.Streams.{stream_of}
 use Rattle.reader.specs.Notes.{Note}
-use Rattle.reader.specs.Annotate.{Attr, annotate, static_fault, first_where, is_too_deep, is_again, is_undeclared}
+use Rattle.reader.specs.Annotate.{Attr, annotate}
 use Rattle.reader.specs.Rows.{scope_of}
 use Rattle.reader.specs.Frames.{symbols_of, attrs_of}
-use Rattle.reader.specs.Firsts.{start_attrs, root_attrs, text_notes, ask_firsts, answered}
+use Rattle.reader.specs.Firsts.{start_attrs, root_attrs, text_notes}
 use Rattle.reader.proofs.Checks.{sealed}
 use Rattle.reader.proofs.Capacity.{symbols_long}
 use Rattle.reader.proofs.Noting.{Noting, Small, map_attrs}
@@ -47,6 +46,10 @@ begun_state ws text w d s e = begin ws text (symbols_of w d) (ap sealed e ∙ st
 abbrev pub begun_notes : List Word → List ℕ → List ℕ → List ℕ → ℕ → List (Note × ℕ)
 begun_notes ws text row w d = annotate (symbols_of w d) (map_attrs (scope_of row text) (attrs_of w d)) (stream_of ws text)
 
+pub none_yet : (f : Firsts) → (f.deep ≡ None) × ((f.again ≡ None) × ((f.missing ≡ None) × (f.mention ≡ None))) →
+    f ≡ record { deep = None; again = None; missing = None; mention = None }
+none_yet f e = λ k. record { deep = e.0 k; again = e.1.0 k; missing = e.1.1.0 k; mention = e.1.1.1 k }
+
 pub begun_noting : (ws : List Word) (text : List ℕ) (asked : ℕ) (row w : List ℕ) (d : ℕ) (s : Start) → attrs_of w d ≡ root_attrs (start_of s) →
     Noting ws text asked (begun_notes ws text row w d) (symbols_of w d) (attrs_of w d) row 0 0
     (record { deep = None; again = None; missing = None; mention = None }) []
@@ -78,14 +81,3 @@ all_notes ws text row w d s e f =
 pub ok_of : (ws : List Word) (text w : List ℕ) (d : ℕ) (s : Start) → symbols_of w d ≡ start_of s →
     is_accepted (reads (start_of s) (stream_of ws text) default_rank) ≡ true → is_accepted (reads (symbols_of w d) (stream_of ws text) default_rank) ≡ true
 ok_of ws text w d s e h = ap (λ (x : List Symbol). is_accepted (reads x (stream_of ws text) default_rank)) e ∙ h
-
--- the verdict by the first places
-pub verdict_is : (f : Firsts) (ns all : List (Note × ℕ)) (r : Result (Unit {0}) ReadFault) → r ≡ answered (ask_firsts f.deep f.again f.missing) →
-    (f.deep ≡ first_where is_too_deep ns) × (f.again ≡ first_where is_again ns) × (f.missing ≡ first_where is_undeclared ns) → ns ≡ all →
-    r ≡ answered (static_fault all)
-verdict_is f ns all r e h same =
-    e
-    ∙ ap (λ (x : Option ℕ). answered (ask_firsts x f.again f.missing)) h.0
-    ∙ ap (λ (x : Option ℕ). answered (ask_firsts (first_where is_too_deep ns) x f.missing)) h.1
-    ∙ ap (λ (x : Option ℕ). answered (ask_firsts (first_where is_too_deep ns) (first_where is_again ns) x)) h.2
-    ∙ ap (λ (x : List (Note × ℕ)). answered (static_fault x)) same

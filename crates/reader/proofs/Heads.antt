@@ -1,5 +1,5 @@
 -- The heads that name units, as the reader finds them.
-use Rattle.std.proofs.Common.{◌≡◌, ℕ, suc, ◌≤◌, Bool, true, false, cond, eqb, leb, List, length, Some, Ok, Err, Result, sym, refl, ap, ◌∙◌, subst, leb-false}
+use Rattle.std.proofs.Common.{◌≡◌, ℕ, suc, Bool, true, false, cond, eqb, leb, List, length, Some, Ok, Err, Result, sym, refl, ap, ◌∙◌, subst, leb-false}
 use borrow.Author.Tests.{eqb-false}
 use Rattle.cores.specs.Meaning.{Word}
 use Rattle.reader.specs.declared.fault.ReadFault.{ReadFault}
@@ -9,14 +9,13 @@ use Rattle.reader.specs.Tokens.{Token}
 use Rattle.reader.specs.Print.{print_unit, print_signature_text}
 use Rattle.reader.specs.Streams.{stream_of, tokens_in}
 use Rattle.reader.specs.Reading.{Outcome, accepted, refused, reads, default_rank, FirstRefused, UnitOutcome, SignatureOutcome}
-use Rattle.reader.specs.Parsing.{start_of, outcome}
+use Rattle.reader.specs.Parsing.{start_of}
 use Rattle.reader.specs.Notes.{Note, notes_unit, notes_signature_text}
 use Rattle.reader.specs.Annotate.{unit_places, with_places}
 use Rattle.reader.specs.Answers.{scratch_words, text_limit}
 use Rattle.reader.specs.Firsts.{start_attrs, text_notes}
-use Rattle.reader.specs.Mentions.{mentions_in, HeadsAt, heads_read, heads_answer, HeadsMeaning, Inside}
+use Rattle.reader.specs.Mentions.{mentions_in, HeadsAt, heads_read, heads_answer, HeadsMeaning, HeadsMeaningOf, Inside}
 use Rattle.reader.proofs.Laws.{units_are_read, signatures_are_read}
-use Rattle.reader.proofs.Means.{asked_in, outcome_err, outcome_ok}
 use Rattle.reader.proofs.Noted.{unit_annotated, signature_annotated}
 use Rattle.reader.proofs.Upper.{mentions_of, mentions_same, mention_places, some_names, names_there, names_inside}
 
@@ -73,7 +72,7 @@ module _ {T : Type 0} (print : T → List Token) (notes : T → List Note) (star
   meaning_inside (Err e) h = tt
 
 -- what an answer is, with what it means
-pub record HeadsTold {T : Type 0} (print : T → List Token) (notes : T → List Note) (start : Start) (ws : List Word) (text : List ℕ) (room : ℕ)
+record HeadsTold {T : Type 0} (print : T → List Token) (notes : T → List Note) (start : Start) (ws : List Word) (text : List ℕ) (room : ℕ)
     (r : Result (List ℕ) ReadFault) : Type 0 where
   pub answer : r ≡ heads_answer start ws text room
   pub meaning : HeadsMeaning print notes ws text room r
@@ -86,29 +85,25 @@ heads_told print notes start ws text room r h e =
     let m = subst (HeadsMeaning print notes ws text room) (sym e) (heads_mean print notes start ws text room h) in
     record { answer = e; meaning = m; inside = meaning_inside print notes start ws text room r m }
 
-pub unit_heads_told : (ws : List Word) (text : List ℕ) (room : ℕ) (r : Result (List ℕ) ReadFault) → r ≡ heads_answer Start.«Unit» ws text room →
+unit_heads_told : (ws : List Word) (text : List ℕ) (room : ℕ) (r : Result (List ℕ) ReadFault) → r ≡ heads_answer Start.«Unit» ws text room →
     HeadsTold print_unit notes_unit Start.«Unit» ws text room r
 unit_heads_told ws text room r e =
     heads_told print_unit notes_unit Start.«Unit» ws text room r (unit_told ws text (reads (start_of Start.«Unit») (stream_of ws text) default_rank)
     (units_are_read (stream_of ws text))) e
 
-pub signature_heads_told : (ws : List Word) (text : List ℕ) (room : ℕ) (r : Result (List ℕ) ReadFault) → r ≡ heads_answer Start.Signature ws text room →
+signature_heads_told : (ws : List Word) (text : List ℕ) (room : ℕ) (r : Result (List ℕ) ReadFault) → r ≡ heads_answer Start.Signature ws text room →
     HeadsTold print_signature_text notes_signature_text Start.Signature ws text room r
 signature_heads_told ws text room r e =
     heads_told print_signature_text notes_signature_text Start.Signature ws text room r
     (signature_told ws text (reads (start_of Start.Signature) (stream_of ws text) default_rank) (signatures_are_read (stream_of ws text))) e
 
-module _ (start : Start) (ws : List Word) (text : List ℕ) (room : ℕ) (e : room ≡ scratch_words) (h : length text ≤ text_limit) where
-  pub heads_refused : (x : ReadFault) → Err x ≡ outcome (reads (start_of start) (stream_of ws text) default_rank) → Err x ≡ heads_answer start ws text room
-  heads_refused x r =
-      let o = outcome_err (reads (start_of start) (stream_of ws text) default_rank) x r in
-      ap Err o.2
-      ∙ ap (λ (y : Outcome). heads_read y (unit_places (text_notes start ws text))) (sym o.1)
-      ∙ sym (asked_in room (length text) (heads_body start ws text) e h)
+-- the same by what the text is read as
+pub heads_so : (start : Start) (ws : List Word) (text : List ℕ) (room : ℕ) (r : Result (List ℕ) ReadFault) → r ≡ heads_answer start ws text room →
+    HeadsMeaningOf start ws text room r
+heads_so Start.«Unit» ws text room r e = (unit_heads_told ws text room r e).meaning
+heads_so Start.Signature ws text room r e = (signature_heads_told ws text room r e).meaning
 
-  pub heads_listed : (n : ℕ) (r : Result (List ℕ) ReadFault) → Ok n ≡ outcome (reads (start_of start) (stream_of ws text) default_rank) →
-      r ≡ Ok (unit_places (text_notes start ws text)) → r ≡ heads_answer start ws text room
-  heads_listed n r o f =
-      f
-      ∙ ap (λ (y : Outcome). heads_read y (unit_places (text_notes start ws text))) (sym (outcome_ok (reads (start_of start) (stream_of ws text) default_rank) n o))
-      ∙ sym (asked_in room (length text) (heads_body start ws text) e h)
+pub heads_inside : (start : Start) (ws : List Word) (text : List ℕ) (room : ℕ) (r : Result (List ℕ) ReadFault) → r ≡ heads_answer start ws text room →
+    Inside (length text) r
+heads_inside Start.«Unit» ws text room r e = (unit_heads_told ws text room r e).inside
+heads_inside Start.Signature ws text room r e = (signature_heads_told ws text room r e).inside

@@ -3,7 +3,7 @@ use Rattle.std.proofs.Common.{◌≡◌, ℕ, zero, suc, ◌≤◌, Bool, true, 
 use borrow.Author.Tests.{eqb-false}
 use Rattle.reader.specs.declared.parse.Start.{Start}
 use Rattle.reader.specs.Annotate.{annotate, static_fault, first_where, is_too_deep, is_again, is_undeclared}
-use Rattle.reader.specs.Firsts.{answered, ask_firsts, start_attrs}
+use Rattle.reader.specs.Firsts.{ask_firsts, start_attrs}
 use Rattle.reader.specs.Notes.{Note}
 use Rattle.reader.specs.Parsing.{outcome, start_of, is_accepted}
 use Rattle.reader.proofs.Noted.{unit_annotated, signature_annotated}
@@ -241,13 +241,6 @@ asked_in room len rest e h =
     ap (λ (b : Bool). cond b (cond (leb len text_limit) rest (Err TooLong)) (Err Scratch)) (eq-eqb room scratch_words e)
     ∙ ap (λ (b : Bool). cond b rest (Err TooLong)) (le-leb len text_limit h)
 
-pub outcome_err : (o : Outcome) (e : ReadFault) → Err e ≡ outcome o → (p : ℕ) × (o ≡ refused p) × (e ≡ Syntax p)
-outcome_err (accepted n) e h = absurd (let z : ◌≡◌ {A = ℕ} 0 1 = cc in omega arith)
-outcome_err (refused p) e h = (p, refl, err_same h)
-  where
-    err_same : {e : ReadFault} → ◌≡◌ {A = Result ℕ ReadFault} (Err e) (Err (Syntax p)) → e ≡ Syntax p
-    err_same h = cc
-
 pub outcome_ok : (o : Outcome) (n : ℕ) → Ok n ≡ outcome o → o ≡ accepted n
 outcome_ok (accepted m) n h = ap accepted (sym (ok_same h))
   where
@@ -255,70 +248,10 @@ outcome_ok (accepted m) n h = ap accepted (sym (ok_same h))
     ok_same h = cc
 outcome_ok (refused p) n h = absurd (let z : ◌≡◌ {A = ℕ} 0 1 = cc in omega arith)
 
-answered_ok : (o : Option ReadFault) → Ok tt ≡ answered o → o ≡ None
-answered_ok None h = refl
-answered_ok (Some e) h = absurd (let z : ◌≡◌ {A = ℕ} 0 1 = cc in omega arith)
-
-answered_err : (o : Option ReadFault) (e : ReadFault) → Err e ≡ answered o → o ≡ Some e
-answered_err None e h = absurd (let z : ◌≡◌ {A = ℕ} 0 1 = cc in omega arith)
-answered_err (Some x) e h = ap Some (sym (err_same h))
-  where
-    err_same : {e : ReadFault} → ◌≡◌ {A = Result (Unit {0}) ReadFault} (Err e) (Err x) → e ≡ x
-    err_same h = cc
-
 -- a text that was read is accepted
 pub accepts : (s : Start) (ws : List Word) (text : List ℕ) (n : ℕ) → Ok n ≡ outcome (reads (start_of s) (stream_of ws text) default_rank) →
     is_accepted (reads (start_of s) (stream_of ws text) default_rank) ≡ true
 accepts s ws text n h = ap is_accepted (outcome_ok (reads (start_of s) (stream_of ws text) default_rank) n h)
-
-module _ (ws : List Word) (text : List ℕ) (room : ℕ) (e : room ≡ scratch_words) (h : length text ≤ text_limit) where
-  unit_in : unit_body ws text ≡ unit_answer ws text room
-  unit_in = sym (asked_in room (length text) (unit_body ws text) e h)
-
-  signature_in : signature_body ws text ≡ signature_answer ws text room
-  signature_in = sym (asked_in room (length text) (signature_body ws text) e h)
-
-  pub unit_refused : (x : ReadFault) → Err x ≡ outcome (reads unit_start (stream_of ws text) default_rank) → Err x ≡ unit_answer ws text room
-  unit_refused x r =
-      let o = outcome_err (reads unit_start (stream_of ws text) default_rank) x r in
-      ap Err o.2
-      ∙ ap (λ (y : Outcome). unit_read text y (static_fault (annotate unit_start (start_attrs Start.«Unit») (stream_of ws text)))) (sym o.1)
-      ∙ unit_in
-
-  pub signature_refused : (x : ReadFault) → Err x ≡ outcome (reads signature_start (stream_of ws text) default_rank) → Err x ≡ signature_answer ws text room
-  signature_refused x r =
-      let o = outcome_err (reads signature_start (stream_of ws text) default_rank) x r in
-      ap Err o.2
-      ∙ ap (λ (y : Outcome). signature_read y (static_fault (annotate signature_start (start_attrs Start.Signature) (stream_of ws text)))) (sym o.1)
-      ∙ signature_in
-
-  pub unit_statics : (n : ℕ) (x : ReadFault) → Ok n ≡ outcome (reads unit_start (stream_of ws text) default_rank) →
-      Err x ≡ answered (static_fault (annotate unit_start (start_attrs Start.«Unit») (stream_of ws text))) → Err x ≡ unit_answer ws text room
-  unit_statics n x r st =
-      let o = outcome_ok (reads unit_start (stream_of ws text) default_rank) n r in
-      let f = answered_err (static_fault (annotate unit_start (start_attrs Start.«Unit») (stream_of ws text))) x st in
-      ap (unit_read text (accepted n)) (sym f)
-      ∙ ap (λ (y : Outcome). unit_read text y (static_fault (annotate unit_start (start_attrs Start.«Unit») (stream_of ws text)))) (sym o)
-      ∙ unit_in
-
-  pub signature_answered : (n : ℕ) (x : Result (Unit {0}) ReadFault) → Ok n ≡ outcome (reads signature_start (stream_of ws text) default_rank) →
-      x ≡ answered (static_fault (annotate signature_start (start_attrs Start.Signature) (stream_of ws text))) → x ≡ signature_answer ws text room
-  signature_answered n x r st =
-      let o = outcome_ok (reads signature_start (stream_of ws text) default_rank) n r in
-      st
-      ∙ ap (λ (y : Outcome). signature_read y (static_fault (annotate signature_start (start_attrs Start.Signature) (stream_of ws text)))) (sym o)
-      ∙ signature_in
-
-  pub unit_accepted : (n : ℕ) (x : Option (Name × ℕ)) → Ok n ≡ outcome (reads unit_start (stream_of ws text) default_rank) →
-      Ok tt ≡ answered (static_fault (annotate unit_start (start_attrs Start.«Unit») (stream_of ws text))) → x ≡ name_in text →
-      heading_of x n (length text) ≡ unit_answer ws text room
-  unit_accepted n x r st f =
-      let o = outcome_ok (reads unit_start (stream_of ws text) default_rank) n r in
-      let z = answered_ok (static_fault (annotate unit_start (start_attrs Start.«Unit») (stream_of ws text))) st in
-      ap (λ (y : Option (Name × ℕ)). heading_of y n (length text)) f
-      ∙ ap (unit_read text (accepted n)) (sym z)
-      ∙ ap (λ (y : Outcome). unit_read text y (static_fault (annotate unit_start (start_attrs Start.«Unit») (stream_of ws text)))) (sym o)
-      ∙ unit_in
 
 pub rank_fits : (s : Stream) (n : ℕ) → Ok n ≡ outcome (reads unit_start s default_rank) → n ≤ 255
 rank_fits s n r = rank_small s n (outcome_ok (reads unit_start s default_rank) n r)

@@ -1,5 +1,5 @@
 -- The units that a text names, as the reader finds them.
-use Rattle.std.proofs.Common.{◌≡◌, ℕ, suc, ◌≤◌, Bool, true, false, cond, eqb, leb, List, length, Ok, Err, Option, Result, sym, refl, ap, ◌∙◌, subst, leb-false}
+use Rattle.std.proofs.Common.{◌≡◌, ℕ, suc, Bool, true, false, cond, eqb, leb, List, length, Err, Option, Result, sym, refl, ap, ◌∙◌, subst, leb-false}
 use borrow.Author.Tests.{eqb-false}
 use Rattle.types.specs.Types.{Name}
 use Rattle.cores.specs.Meaning.{Word}
@@ -8,14 +8,12 @@ use Rattle.reader.specs.declared.fault.ReadFault.TheVariants.{Scratch, TooLong}
 use Rattle.reader.specs.declared.parse.Start.{Start}
 use Rattle.reader.specs.Streams.{stream_of}
 use Rattle.reader.specs.Reading.{Outcome, accepted, refused, reads, unit_start, default_rank, UnitOutcome}
-use Rattle.reader.specs.Parsing.{outcome}
 use Rattle.reader.specs.Notes.{Note, notes_unit}
 use Rattle.reader.specs.Annotate.{annotate, names_unit, first_where}
 use Rattle.reader.specs.Answers.{scratch_words, text_limit}
 use Rattle.reader.specs.Firsts.{start_attrs}
-use Rattle.reader.specs.Mentions.{first_from, name_from, mention_read, mention_answer, MentionMeaning}
+use Rattle.reader.specs.Mentions.{first_from, mention_read, mention_answer, MentionMeaning}
 use Rattle.reader.proofs.Laws.{units_are_read}
-use Rattle.reader.proofs.Means.{asked_in, outcome_err, outcome_ok}
 use Rattle.reader.proofs.Noted.{unit_annotated}
 use Rattle.reader.proofs.Upper.{mentions_of, mentions_same, name_of_first}
 
@@ -49,23 +47,3 @@ mention_means ws text room from = by_room (eqb room scratch_words) refl
 pub mention_so : (ws : List Word) (text : List ℕ) (room from : ℕ) (r : Result (Option (Name × ℕ)) ReadFault) → r ≡ mention_answer ws text room from →
     MentionMeaning ws text room from r
 mention_so ws text room from r e = subst (MentionMeaning ws text room from) (sym e) (mention_means ws text room from)
-
-module _ (ws : List Word) (text : List ℕ) (room from : ℕ) (e : room ≡ scratch_words) (h : length text ≤ text_limit) where
-  pub mention_refused : (x : ReadFault) → Err x ≡ outcome (reads unit_start (stream_of ws text) default_rank) → Err x ≡ mention_answer ws text room from
-  mention_refused x r =
-      let o = outcome_err (reads unit_start (stream_of ws text) default_rank) x r in
-      ap Err o.2
-      ∙ ap (λ (y : Outcome). mention_read text y (first_where (names_unit from) (annotate unit_start (start_attrs Start.«Unit») (stream_of ws text)))) (sym o.1)
-      ∙ sym (asked_in room (length text) (mention_body ws text from) e h)
-
-  pub mention_found : (n : ℕ) (p : Option ℕ) → Ok n ≡ outcome (reads unit_start (stream_of ws text) default_rank) →
-      p ≡ first_where (names_unit from) (annotate unit_start (start_attrs Start.«Unit») (stream_of ws text)) →
-      Ok (name_from text p) ≡ mention_answer ws text room from
-  mention_found n p r f =
-      let o = outcome_ok (reads unit_start (stream_of ws text) default_rank) n r in
-      ap (mention_read text (accepted n)) f
-      ∙ ap (λ (y : Outcome). mention_read text y (first_where (names_unit from) (annotate unit_start (start_attrs Start.«Unit») (stream_of ws text)))) (sym o)
-      ∙ sym (asked_in room (length text) (mention_body ws text from) e h)
-
-pub ok_inside : {x y : Option ℕ} → ◌≡◌ {A = Result (Option ℕ) ReadFault} (Ok x) (Ok y) → x ≡ y
-ok_inside e = cc

@@ -1,67 +1,74 @@
 -- Looking outward through a scope, entry by entry, and scopes in a row that grows.
-use Rattle.std.proofs.Common.{◌≡◌, ℕ, zero, suc, ◌+◌, ◌-◌, ◌*◌, ◌<◌, ◌≤◌, Bool, true, false, cond, ◌&&◌, ◌||◌, leb, List, ◌∷◌, get_or, sym, refl, ap, ◌∙◌, arith, leb-true}
+use Rattle.std.proofs.Common.{◌≡◌, ℕ, zero, suc, ◌+◌, ◌-◌, ◌*◌, ◌<◌, ◌≤◌, Bool, true, false, cond, not, ◌&&◌, ◌||◌, leb, List, [], ◌∷◌, get_or, take, sym, refl, ap, ◌∙◌, arith, leb-true}
 use Rattle.std.specs.Str.{bytes_eq}
+use Rattle.std.specs.List.{list_any, prefix_len}
 use Rattle.types.specs.Types.{Name}
 use Rattle.reader.specs.declared.scope.Sort.{Sort}
 use Rattle.reader.specs.declared.scope.Binder.{Binder}
-use Rattle.reader.specs.Scopes.{Scope, same_sort, Resolution, component, bound, nowhere, further, sought, seek, declares, is_declared, is_itself, is_component, is_sought}
-use Rattle.reader.specs.Rows.{entry_at, parent_at, scope_from, scope_of, is_nowhere}
+use Rattle.reader.specs.declared.row.Entry.{Entry}
+use Rattle.reader.specs.declared.row.Scope.{Scope as Outward}
+use Rattle.reader.specs.Scopes.{Binding, Scope, same_sort, Resolution, component, bound, nowhere, further, sought, seek, declares, is_declared, is_itself, is_component, is_sought}
+use Rattle.reader.specs.Rows.{entry_at, parent_at, scope_from, scope_of, binding_of, entries_of, is_nowhere}
 
 false_true : false ≡ true → ⊥
 false_true e = let z : ◌≡◌ {A = ℕ} 0 1 = cc in omega arith
 
--- ---- one entry
-
-or_true : (b c : Bool) → b ≡ true → b || c ≡ true
-or_true true c e = refl
-or_true false c e = absurd (false_true e)
-
-or_false : (b c : Bool) → b ≡ false → b || c ≡ c
-or_false true c e = absurd (false_true (sym e))
-or_false false c e = refl
-
-pub declares_itself : (s : Sort) (x : Name) (b : Binder) (y : Name) (rest : Bool) → is_itself b ≡ true → declares s x b y rest ≡ false
-declares_itself s x Binder.Itself y rest e = refl
-declares_itself s x (Binder.Component t) y rest e = absurd (false_true e)
-declares_itself s x Binder.Parameter y rest e = absurd (false_true e)
-declares_itself s x Binder.Variable y rest e = absurd (false_true e)
-
-pub declares_here : (s : Sort) (x : Name) (b : Binder) (y : Name) (rest : Bool) → is_component s x b y ≡ true → declares s x b y rest ≡ true
-declares_here s x Binder.Itself y rest e = absurd (false_true e)
-declares_here s x (Binder.Component t) y rest e = or_true (same_sort s t && bytes_eq x y) rest e
-declares_here s x Binder.Parameter y rest e = absurd (false_true e)
-declares_here s x Binder.Variable y rest e = absurd (false_true e)
-
-pub declares_later : (s : Sort) (x : Name) (b : Binder) (y : Name) (rest : Bool) → is_itself b ≡ false → is_component s x b y ≡ false → declares s x b y rest ≡ rest
-declares_later s x Binder.Itself y rest h e = absurd (false_true (sym h))
-declares_later s x (Binder.Component t) y rest h e = or_false (same_sort s t && bytes_eq x y) rest e
-declares_later s x Binder.Parameter y rest h e = refl
-declares_later s x Binder.Variable y rest h e = refl
+-- ---- the answers as searches through the entries
 
 nowhere_further : (r : Resolution) → is_nowhere (further r) ≡ is_nowhere r
 nowhere_further (component n) = refl
 nowhere_further (bound n) = refl
 nowhere_further nowhere = refl
 
-cond_true : {X : Type 0} (b : Bool) (u v : X) → b ≡ true → cond b u v ≡ u
-cond_true true u v e = refl
-cond_true false u v e = absurd (false_true e)
+not_or : (b c : Bool) → not (b || c) ≡ not b && not c
+not_or true c = refl
+not_or false c = refl
 
-cond_false : {X : Type 0} (b : Bool) (u v : X) → b ≡ false → cond b u v ≡ v
-cond_false true u v e = absurd (false_true (sym e))
-cond_false false u v e = refl
+past_bound : (here : Bool) (rest : Resolution) → not here && is_nowhere rest ≡ is_nowhere (cond here (bound 0) (further rest))
+past_bound true rest = refl
+past_bound false rest = sym (nowhere_further rest)
 
-pub sought_here : (s : Sort) (x : Name) (b : Binder) (y : Name) (rest : Resolution) → is_sought s x b y ≡ true → is_nowhere (sought s x b y rest) ≡ false
-sought_here s x Binder.Itself y rest e = absurd (false_true e)
-sought_here s x (Binder.Component t) y rest e = ap is_nowhere (cond_true (same_sort s t && bytes_eq x y) (component 0) rest e)
-sought_here s x Binder.Parameter y rest e = ap is_nowhere (cond_true (same_sort s Sort.Module && bytes_eq x y) (bound 0) (further rest) e)
-sought_here s x Binder.Variable y rest e = ap is_nowhere (cond_true (same_sort s Sort.Value && bytes_eq x y) (bound 0) (further rest) e)
+nowhere_past : (s : Sort) (x : Name) (b : Binder) (y : Name) (rest : Resolution) → not (is_sought s x b y) && is_nowhere rest ≡ is_nowhere (sought s x b y rest)
+nowhere_past s x Binder.Itself y rest = sym (nowhere_further rest)
+nowhere_past s x (Binder.Component t) y rest = go (same_sort s t && bytes_eq x y)
+  where
+    go : (here : Bool) → not here && is_nowhere rest ≡ is_nowhere (cond here (component 0) rest)
+    go true = refl
+    go false = refl
+nowhere_past s x Binder.Parameter y rest = past_bound (same_sort s Sort.Module && bytes_eq x y) rest
+nowhere_past s x Binder.Variable y rest = past_bound (same_sort s Sort.Value && bytes_eq x y) rest
 
-pub sought_later : (s : Sort) (x : Name) (b : Binder) (y : Name) (rest : Resolution) → is_sought s x b y ≡ false → is_nowhere (sought s x b y rest) ≡ is_nowhere rest
-sought_later s x Binder.Itself y rest e = nowhere_further rest
-sought_later s x (Binder.Component t) y rest e = ap is_nowhere (cond_false (same_sort s t && bytes_eq x y) (component 0) rest e)
-sought_later s x Binder.Parameter y rest e = ap is_nowhere (cond_false (same_sort s Sort.Module && bytes_eq x y) (bound 0) (further rest) e) ∙ nowhere_further rest
-sought_later s x Binder.Variable y rest e = ap is_nowhere (cond_false (same_sort s Sort.Value && bytes_eq x y) (bound 0) (further rest) e) ∙ nowhere_further rest
+-- a name is nowhere where no entry is what it is sought for
+pub nowhere_by_any : (s : Sort) (x : Name) (scope : Scope) → not (list_any (λ (b : Binding). is_sought s x b.binder b.name) scope) ≡ is_nowhere (seek s x scope)
+nowhere_by_any s x [] = refl
+nowhere_by_any s x (b ∷ scope) =
+    not_or (is_sought s x b.binder b.name) (list_any (λ (b : Binding). is_sought s x b.binder b.name) scope)
+    ∙ ap (λ (c : Bool). not (is_sought s x b.binder b.name) && c) (nowhere_by_any s x scope)
+    ∙ nowhere_past s x b.binder b.name (seek s x scope)
+
+one_more : (s : Sort) (x : Name) (b : Binding) (scope : Scope) (n : ℕ) →
+    list_any (λ (b : Binding). is_component s x b.binder b.name) (take (1 + n) (b ∷ scope))
+    ≡ is_component s x b.binder b.name || list_any (λ (b : Binding). is_component s x b.binder b.name) (take n scope)
+one_more s x b scope n =
+    let e : 1 + n ≡ suc n = omega arith in
+    ap (λ (m : ℕ). list_any (λ (b : Binding). is_component s x b.binder b.name) (take m (b ∷ scope))) e
+
+past_itself : (s : Sort) (x : Name) (k : Binder) (y : Name) (scope : Scope) (n : ℕ) →
+    list_any (λ (b : Binding). is_component s x b.binder b.name) (take (cond (not (is_itself k)) (1 + n) 0) (record { binder = k; name = y } ∷ scope))
+    ≡ declares s x k y (list_any (λ (b : Binding). is_component s x b.binder b.name) (take n scope))
+past_itself s x Binder.Itself y scope n = refl
+past_itself s x (Binder.Component t) y scope n = one_more s x (record { binder = Binder.Component t; name = y }) scope n
+past_itself s x Binder.Parameter y scope n = one_more s x (record { binder = Binder.Parameter; name = y }) scope n
+past_itself s x Binder.Variable y scope n = one_more s x (record { binder = Binder.Variable; name = y }) scope n
+
+-- a name is declared where an entry up to the innermost structure or signature declares it
+pub declared_by_any :
+    (s : Sort) (x : Name) (scope : Scope) →
+    list_any (λ (b : Binding). is_component s x b.binder b.name) (take (prefix_len (λ (b : Binding). not (is_itself b.binder)) scope) scope) ≡ is_declared s x scope
+declared_by_any s x [] = refl
+declared_by_any s x (b ∷ scope) =
+    past_itself s x b.binder b.name scope (prefix_len (λ (b : Binding). not (is_itself b.binder)) scope)
+    ∙ ap (declares s x b.binder b.name) (declared_by_any s x scope)
 
 -- ---- entries of a row
 
@@ -97,30 +104,13 @@ scope_step row text (suc i) h =
     ap (λ (x : Scope). entry_at row text i ∷ x) (fuel_free i (parent_at row i) (parent_at row i) row text p (omega arith))
     ∙ ap (λ (j : ℕ). entry_at row text j ∷ scope_of row text (parent_at row j)) e
 
--- the answers at an entry, by its binder and name
-pub declared_by :
-    (s : Sort) (x : Name) (row text : List ℕ) (i : ℕ) (b : Binder) (y : Name) → 0 < i →
-    b ≡ (entry_at row text (i - 1)).binder → y ≡ (entry_at row text (i - 1)).name →
-    is_declared s x (scope_of row text i) ≡ declares s x b y (is_declared s x (scope_of row text (parent_at row (i - 1))))
-declared_by s x row text i b y h e f =
-    ap (is_declared s x) (scope_step row text i h)
-    ∙ ap (λ (z : Binder). declares s x z (entry_at row text (i - 1)).name (is_declared s x (scope_of row text (parent_at row (i - 1))))) (sym e)
-    ∙ ap (λ (z : Name). declares s x b z (is_declared s x (scope_of row text (parent_at row (i - 1))))) (sym f)
-
-pub sought_by :
-    (s : Sort) (x : Name) (row text : List ℕ) (i : ℕ) (b : Binder) (y : Name) → 0 < i →
-    b ≡ (entry_at row text (i - 1)).binder → y ≡ (entry_at row text (i - 1)).name →
-    is_nowhere (seek s x (scope_of row text i)) ≡ is_nowhere (sought s x b y (seek s x (scope_of row text (parent_at row (i - 1)))))
-sought_by s x row text i b y h e f =
-    ap (λ (z : Scope). is_nowhere (seek s x z)) (scope_step row text i h)
-    ∙ ap (λ (z : Binder). is_nowhere (sought s x z (entry_at row text (i - 1)).name (seek s x (scope_of row text (parent_at row (i - 1)))))) (sym e)
-    ∙ ap (λ (z : Name). is_nowhere (sought s x b z (seek s x (scope_of row text (parent_at row (i - 1)))))) (sym f)
-
--- outermost nothing is declared
-pub declared_none : (s : Sort) (x : Name) (row text : List ℕ) (i : ℕ) → i ≤ 0 → is_declared s x (scope_of row text i) ≡ false
-declared_none s x row text zero h = refl
-declared_none s x row text (suc i) h = absurd (omega arith)
-
-pub sought_none : (s : Sort) (x : Name) (row text : List ℕ) (i : ℕ) → i ≤ 0 → is_nowhere (seek s x (scope_of row text i)) ≡ true
-sought_none s x row text zero h = refl
-sought_none s x row text (suc i) h = absurd (omega arith)
+-- a step outward
+pub scope_goes :
+    (s : Outward) (at parent : ℕ) (e : Entry) → 0 < s.number → at ≡ s.number - 1 →
+    parent ≡ parent_at s.row.now at → binding_of e ≡ entry_at s.row.now s.text.now at →
+    entries_of s ≡ binding_of e ∷ scope_of s.row.now s.text.now parent
+scope_goes s at parent e h i p f =
+    scope_step s.row.now s.text.now s.number h
+    ∙ ap (λ (j : ℕ). entry_at s.row.now s.text.now j ∷ scope_of s.row.now s.text.now (parent_at s.row.now j)) (sym i)
+    ∙ ap (λ (b : Binding). b ∷ scope_of s.row.now s.text.now (parent_at s.row.now at)) (sym f)
+    ∙ ap (λ (n : ℕ). binding_of e ∷ scope_of s.row.now s.text.now n) (sym p)

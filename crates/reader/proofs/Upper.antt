@@ -9,7 +9,7 @@ use Rattle.types.specs.Types.{Name}
 use Rattle.cores.specs.Meaning.{Word}
 use Rattle.reader.specs.declared.class.Class.{Class}
 use Rattle.reader.specs.declared.scope.Sort.{Sort}
-use Rattle.reader.specs.declared.scope.HeadKind.TheVariants.{NoHead as no_head, LowerOf as lower_of, UpperOf as upper_of}
+use Rattle.reader.specs.declared.scope.PathHead.{PathHead}
 use Rattle.reader.specs.declared.symbol.Symbol.{Symbol}
 use Rattle.reader.specs.Tokens.{Token, upper, class_of, token_of}
 use Rattle.reader.specs.Grammar.{expand}
@@ -50,14 +50,14 @@ lower_no_unit (component n) = refl
 lower_no_unit (bound n) = refl
 lower_no_unit nowhere = refl
 
-upper_only : (b : Bool) (x : Name) (scope : Scope) → is_unit (head_of (cond b upper_of no_head) x scope) ≡ true → b ≡ true
+upper_only : (b : Bool) (x : Name) (scope : Scope) → is_unit (head_of (cond b (Some PathHead.Upper) None) x scope) ≡ true → b ≡ true
 upper_only true x scope e = refl
 upper_only false x scope e = e
 
 path_upper : (s : Sort) (c : Class) (x : Name) (scope : Scope) → is_unit (head_of (path_head s c) x scope) ≡ true → is c Class.Upper ≡ true
 path_upper s c x scope e = go (is c Class.Lower) e
   where
-    go : (b : Bool) → is_unit (head_of (cond b (lower_of s) (cond (is c Class.Upper) upper_of no_head)) x scope) ≡ true → is c Class.Upper ≡ true
+    go : (b : Bool) → is_unit (head_of (cond b (Some (PathHead.Lower s)) (cond (is c Class.Upper) (Some PathHead.Upper) None)) x scope) ≡ true → is c Class.Upper ≡ true
     go true h = absurd (false_true (sym (lower_no_unit (seek s x scope)) ∙ h))
     go false h = upper_only (is c Class.Upper) x scope h
 

@@ -7,8 +7,7 @@ use Rattle.reader.specs.declared.fault.ReadFault.TheVariants.{TooDeep, Redeclare
 use Rattle.reader.specs.declared.scope.Sort.{Sort}
 use Rattle.reader.specs.declared.scope.Binder.{Binder}
 use Rattle.reader.specs.declared.scope.Inherit.{Inherit}
-use Rattle.reader.specs.declared.scope.HeadKind.{HeadKind}
-use Rattle.reader.specs.declared.scope.HeadKind.TheVariants.{NoHead as no_head, LowerOf as lower_of, UpperOf as upper_of}
+use Rattle.reader.specs.declared.scope.PathHead.{PathHead}
 use Rattle.reader.specs.declared.symbol.Symbol.{Symbol}
 use Rattle.reader.specs.Tokens.{Token, mark, keyword, lower, upper, integer, label0, label1, label2, operator0, operator1, operator2, operator3, text_end, class_of}
 use Rattle.reader.specs.Grammar.{number, expand}
@@ -147,46 +146,51 @@ declaring Symbol.TypeEnd = None
 declaring Symbol.ArgumentName = None
 
 -- a head of a type or a value, by the class of the token
-abbrev pub path_head : Sort → Class → HeadKind
-path_head s k = cond (is k Class.Lower) (lower_of s) (cond (is k Class.Upper) upper_of no_head)
+abbrev pub path_head : Sort → Class → Option PathHead
+path_head s k = cond (is k Class.Lower) (Some (PathHead.Lower s)) (cond (is k Class.Upper) (Some PathHead.Upper) None)
 
-abbrev pub module_head : Class → HeadKind
-module_head k = cond (is k Class.Upper) upper_of no_head
+-- the sort in which a head is sought
+abbrev pub sought_sort : PathHead → Sort
+sought_sort (PathHead.Lower s) = s
+sought_sort PathHead.Upper = Sort.Module
 
--- whether a token is a head
-abbrev pub head_kind : Symbol → Class → HeadKind
-head_kind (Symbol.Token c) k = no_head
-head_kind Symbol.«Unit» k = no_head
-head_kind Symbol.UnitName k = no_head
-head_kind Symbol.UnitEnd k = no_head
-head_kind Symbol.RankValue k = no_head
-head_kind Symbol.Items k = no_head
-head_kind Symbol.TypeItem k = no_head
-head_kind Symbol.ValueItem k = no_head
-head_kind Symbol.ModuleItem k = no_head
+abbrev pub module_head : Class → Option PathHead
+module_head k = cond (is k Class.Upper) (Some PathHead.Upper) None
+
+-- what a token is as a head, if it is one
+abbrev pub head_kind : Symbol → Class → Option PathHead
+head_kind (Symbol.Token c) k = None
+head_kind Symbol.«Unit» k = None
+head_kind Symbol.UnitName k = None
+head_kind Symbol.UnitEnd k = None
+head_kind Symbol.RankValue k = None
+head_kind Symbol.Items k = None
+head_kind Symbol.TypeItem k = None
+head_kind Symbol.ValueItem k = None
+head_kind Symbol.ModuleItem k = None
 head_kind (Symbol.Module c) k = module_head k
-head_kind (Symbol.Parameter c) k = no_head
-head_kind (Symbol.«Path» c) k = no_head
-head_kind (Symbol.PathName c) k = no_head
-head_kind (Symbol.Arguments c) k = no_head
-head_kind Symbol.ModuleEnd k = no_head
+head_kind (Symbol.Parameter c) k = None
+head_kind (Symbol.«Path» c) k = None
+head_kind (Symbol.PathName c) k = None
+head_kind (Symbol.Arguments c) k = None
+head_kind Symbol.ModuleEnd k = None
 head_kind Symbol.Argument k = module_head k
-head_kind Symbol.ArgumentEnd k = no_head
-head_kind Symbol.Signature k = no_head
-head_kind Symbol.SignatureParameter k = no_head
-head_kind Symbol.Specs k = no_head
-head_kind Symbol.TypeSpec k = no_head
-head_kind Symbol.TypeSpecEnd k = no_head
-head_kind Symbol.ValueSpec k = no_head
-head_kind Symbol.ModuleSpec k = no_head
+head_kind Symbol.ArgumentEnd k = None
+head_kind Symbol.Signature k = None
+head_kind Symbol.SignatureParameter k = None
+head_kind Symbol.Specs k = None
+head_kind Symbol.TypeSpec k = None
+head_kind Symbol.TypeSpecEnd k = None
+head_kind Symbol.ValueSpec k = None
+head_kind Symbol.ModuleSpec k = None
 head_kind Symbol.Term k = path_head Sort.Value k
-head_kind Symbol.Variable k = no_head
+head_kind Symbol.Variable k = None
 head_kind Symbol.Atom k = path_head Sort.Value k
-head_kind Symbol.PathEnd k = no_head
+head_kind Symbol.PathEnd k = None
 head_kind (Symbol.«Type» c) k = path_head Sort.«Type» k
-head_kind (Symbol.Labels c) k = no_head
-head_kind Symbol.TypeEnd k = no_head
-head_kind Symbol.ArgumentName k = no_head
+head_kind (Symbol.Labels c) k = None
+head_kind Symbol.TypeEnd k = None
+head_kind Symbol.ArgumentName k = None
 
 -- the name that a token is
 abbrev pub name_of : Token → Name
@@ -208,10 +212,10 @@ abbrev pub again_of : Option Sort → Name → Scope → Bool
 again_of None x scope = false
 again_of (Some s) x scope = is_declared s x scope
 
-abbrev pub head_of : HeadKind → Name → Scope → Head
-head_of no_head x scope = none
-head_of (lower_of s) x scope = lower_head (seek s x scope)
-head_of upper_of x scope = upper_head (seek Sort.Module x scope)
+abbrev pub head_of : Option PathHead → Name → Scope → Head
+head_of None x scope = none
+head_of (Some (PathHead.Lower s)) x scope = lower_head (seek s x scope)
+head_of (Some PathHead.Upper) x scope = upper_head (seek Sort.Module x scope)
 
 -- the note of a token of this class and name, read for a symbol
 abbrev pub note_at : Symbol → Class → Attr Scope → Name → Note
@@ -388,6 +392,17 @@ is_unit (own n) = false
 is_unit (Head.binder n) = false
 is_unit unit = true
 is_unit missing = false
+
+-- whether a head that is declared nowhere is a lower one, or an upper one
+abbrev pub is_lower : Option PathHead → Bool
+is_lower None = false
+is_lower (Some (PathHead.Lower s)) = true
+is_lower (Some PathHead.Upper) = false
+
+abbrev pub is_upper : Option PathHead → Bool
+is_upper None = false
+is_upper (Some (PathHead.Lower s)) = false
+is_upper (Some PathHead.Upper) = true
 
 -- a head that names a unit, at or behind a place
 abbrev pub names_unit : ℕ → Note × ℕ → Bool

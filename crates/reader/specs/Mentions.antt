@@ -7,12 +7,12 @@ use Rattle.reader.specs.declared.fault.ReadFault.{ReadFault}
 use Rattle.reader.specs.declared.fault.ReadFault.TheVariants.{Scratch, TooLong, Syntax, TooDeep, Redeclared, Undeclared}
 use Rattle.reader.specs.declared.parse.Start.{Start}
 use Rattle.reader.specs.Syntax.{UnitTree}
-use Rattle.reader.specs.Print.{print_unit}
+use Rattle.reader.specs.Print.{print_unit, print_signature_text}
 use Rattle.reader.specs.Tokens.{Token}
 use Rattle.reader.specs.Streams.{Stream, finish, broken, next, stream_of, tokens_in}
 use Rattle.reader.specs.Reading.{Outcome, accepted, refused, reads, unit_start, default_rank, FirstRefused}
 use Rattle.reader.specs.Parsing.{start_of}
-use Rattle.reader.specs.Notes.{Note, notes_unit}
+use Rattle.reader.specs.Notes.{Note, notes_unit, notes_signature_text}
 use Rattle.reader.specs.Annotate.{annotate, name_of, is_unit, names_unit, first_where, unit_places}
 use Rattle.reader.specs.Answers.{asked, upper_at, scratch_words, text_limit}
 use Rattle.reader.specs.Firsts.{start_attrs, text_notes}
@@ -92,6 +92,11 @@ HeadsMeaning print notes ws text room (Err (Syntax place)) = FirstRefused print 
 HeadsMeaning print notes ws text room (Err (TooDeep place)) = ⊥
 HeadsMeaning print notes ws text room (Err (Redeclared place)) = ⊥
 HeadsMeaning print notes ws text room (Err (Undeclared place)) = ⊥
+
+-- the same by what the text is read as
+abbrev pub HeadsMeaningOf : Start → List Word → List ℕ → ℕ → Result (List ℕ) ReadFault → Type 0
+HeadsMeaningOf Start.«Unit» ws text room r = HeadsMeaning print_unit notes_unit ws text room r
+HeadsMeaningOf Start.Signature ws text room r = HeadsMeaning print_signature_text notes_signature_text ws text room r
 
 -- each place of an answer is one of the text
 abbrev pub Inside : ℕ → Result (List ℕ) ReadFault → Type 0

@@ -2,6 +2,8 @@
 use Rattle.std.specs.Prelude.{ℕ, zero, suc, ◌+◌, ◌*◌, Bool, true, false, cond, ◌&&◌, List, [], ◌∷◌, length, ◌==◌, nat_le, slice_index, slice_range}
 use Rattle.reader.specs.declared.scope.Sort.{Sort}
 use Rattle.reader.specs.declared.scope.Binder.{Binder}
+use Rattle.reader.specs.declared.row.Entry.{Entry}
+use Rattle.reader.specs.declared.row.Scope.{Scope as Outward}
 use Rattle.reader.specs.Scopes.{Binding, Scope, Resolution, component, bound, nowhere}
 
 -- the number of a binder
@@ -42,6 +44,13 @@ scope_from (suc n) row text (suc i) = entry_at row text i ∷ scope_from n row t
 
 abbrev pub scope_of : List ℕ → List ℕ → ℕ → Scope
 scope_of row text i = scope_from i row text i
+
+-- what the code hands out of a scope: an entry, with the name's bytes in place of the reference to them, and those that it goes through
+abbrev pub binding_of : Entry → Binding
+binding_of e = record { binder = e.binder; name = e.name.now }
+
+abbrev pub entries_of : Outward → Scope
+entries_of s = scope_of s.row.now s.text.now s.number
 
 abbrev pub is_nowhere : Resolution → Bool
 is_nowhere (component n) = false

@@ -2,6 +2,7 @@
 use Rattle.std.specs.Prelude.{◌≡◌, ℕ, ◌≤◌, List, length, take, Ok, Err, Result}
 use Rattle.reader.specs.declared.fault.ReadFault.{ReadFault}
 use Rattle.reader.specs.declared.notes.Firsts.{Firsts}
+use Rattle.reader.specs.declared.read.Survey.{Survey}
 use Rattle.reader.specs.Notes.{Note}
 use Rattle.reader.specs.Annotate.{first_where, is_too_deep, is_again, is_undeclared, names_unit, unit_places}
 
@@ -31,3 +32,8 @@ ListingOf ns (Err e) places = ⊥
 abbrev pub firsts_alone : Result (Firsts × ℕ) ReadFault → Result Firsts ReadFault
 firsts_alone (Ok x) = Ok x.0
 firsts_alone (Err e) = Err e
+
+-- the rank alone of what is learned of a text
+abbrev pub ranked : Result Survey ReadFault → Result ℕ ReadFault
+ranked (Ok s) = Ok s.rank
+ranked (Err e) = Err e

@@ -4,7 +4,7 @@ ghost use Rattle.std.specs.Prelude.{◌≡◌, ◌≤◌, IfSome};
 ghost use Rattle.reader.specs.Annotate.{is_outside, opening, extra, declaring, head_kind, introduces, rules, path_head, module_rules, arguments_rules, atom_rules, type_rules, signature_rules, only_at};
 
 use super::class::Class;
-use super::scope::{Binder, HeadKind, Inherit, Sort};
+use super::scope::{Binder, Inherit, PathHead, Sort};
 use super::symbol::Symbol;
 
 // Whether a token of this class, read for this symbol, belongs to what follows a type or a module.
@@ -57,28 +57,28 @@ pub fn declared_sort(symbol: Symbol) -> Option<Sort>
 }
 
 // A head of a type or a value, by the class of the token.
-fn path_head(sort: Sort, class: Class) -> HeadKind
+fn path_head(sort: Sort, class: Class) -> Option<PathHead>
     ensures { result ≡ path_head sort class }
 {
     match class {
-        Class::Lower => HeadKind::LowerOf(sort),
-        Class::Upper => HeadKind::UpperOf,
-        _ => HeadKind::NoHead,
+        Class::Lower => Some(PathHead::Lower(sort)),
+        Class::Upper => Some(PathHead::Upper),
+        _ => None,
     }
 }
 
-// Whether a token is a head.
-pub fn head_kind(symbol: Symbol, class: Class) -> HeadKind
+// What a token is as a head, if it is one.
+pub fn head_kind(symbol: Symbol, class: Class) -> Option<PathHead>
     ensures { result ≡ head_kind symbol class }
 {
     match symbol {
         Symbol::Type(_) => path_head(Sort::Type, class),
         Symbol::Term | Symbol::Atom => path_head(Sort::Value, class),
         Symbol::Module(_) | Symbol::Argument => match class {
-            Class::Upper => HeadKind::UpperOf,
-            _ => HeadKind::NoHead,
+            Class::Upper => Some(PathHead::Upper),
+            _ => None,
         },
-        _ => HeadKind::NoHead,
+        _ => None,
     }
 }
 

@@ -6,7 +6,7 @@ ghost use Rattle.reader.specs.declared.fault.ReadFault.TheVariants.{Syntax};
 use tokens::lexer::LexFault;
 
 // The question that a text, or the memory lent for reading it, answers with no. A place counts bytes from 0.
-#[derive(Clone, Copy)]
+#[derive(Clone, Copy, PartialEq, Eq, Debug)]
 pub enum ReadFault {
     // the scratch has not the length asked for
     Scratch,

@@ -8,14 +8,14 @@ use super::scope::Inherit;
 use super::symbol::Symbol;
 
 // How many are open at a place, and the number of the innermost entry of its scope.
-#[derive(Clone, Copy)]
+#[derive(Clone, Copy, PartialEq, Eq, Debug)]
 pub struct Place {
     pub opened: u32,
     pub scope: u32,
 }
 
 // What surrounds a symbol, and what surrounds that which follows a type or a module.
-#[derive(Clone, Copy)]
+#[derive(Clone, Copy, PartialEq, Eq, Debug)]
 pub struct Frame {
     pub inner: Place,
     pub outer: Place,
@@ -78,11 +78,7 @@ fn both(place: Place) -> Frame
 fn rule_at(rules: &[Inherit], i: usize) -> Inherit
     ensures { result ≡ slice_index_or rules.now i Inherit.Here }
 {
-    if i < rules.len() {
-        rules[i]
-    } else {
-        Inherit::Here
-    }
+    rules.get(i).copied().unwrap_or(Inherit::Here)
 }
 
 // Writes the frame at a place. Constant time.

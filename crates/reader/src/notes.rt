@@ -1,17 +1,17 @@
 // What a token is told in the second pass: how many are open at it, whether it declares a name again, whether it is a head
 // that is not declared; and what it enters into the scope.
 ghost use Rattle.std.specs.Prelude.{◌≡◌, ℕ, ◌+◌, ◌*◌, ◌^◌, ◌<◌, ◌≤◌, ◌&&◌, List, length, take, nat_le, nat_lt};
-ghost use Rattle.reader.specs.Annotate.{around, extra, raised, declaring, again_of, head_kind, head_of, is_missing, is_unit};
+ghost use Rattle.reader.specs.Annotate.{around, extra, raised, declaring, again_of, head_kind, head_of, is_missing, is_unit, is_lower, is_upper};
 ghost use Rattle.reader.specs.Firsts.{first_of, listed, span_of, EnteredRow, ask_firsts, answered};
 ghost use Rattle.reader.specs.Frames.{placed, attr_of};
-ghost use Rattle.reader.specs.Rows.{scope_of};
+ghost use Rattle.reader.specs.Rows.{entries_of};
 
 use super::attributes::{declared_sort, extra_open, head_kind, is_outside};
 use super::class::Class;
 use super::fault::ReadFault;
 use super::frame::{Frame, Place};
-use super::row::{append, is_declared, is_nowhere};
-use super::scope::{Binder, HeadKind, Sort};
+use super::row::{Scope, append};
+use super::scope::{Binder, PathHead, Sort};
 use super::symbol::Symbol;
 
 // What surrounds a token that is read for a symbol. Constant time.
@@ -36,47 +36,52 @@ pub fn opened_at(symbol: Symbol, class: Class, place: Place) -> u32
     }
 }
 
+// What a token is told.
+#[derive(Clone, Copy, PartialEq, Eq, Debug)]
+pub struct Note {
+    // too much is open at it
+    pub deep: bool,
+    // it declares a name again
+    pub again: bool,
+    // it is a lower head that is not declared
+    pub missing: bool,
+    // it is a head that names a unit
+    pub unit: bool,
+}
+
 // Whether a token declares a name again. Linear in what its structure or signature has declared.
-pub fn is_redeclared(row: &[u32], text: &[u8], place: Place, symbol: Symbol, name: &[u8]) -> bool
-    ensures { result ≡ again_of (declaring symbol) name.now (scope_of row.now text.now place.scope) }
+fn is_redeclared(scope: Scope<'_>, symbol: Symbol, name: &[u8]) -> bool
+    ensures { result ≡ again_of (declaring symbol) name.now (entries_of scope.entry) }
 {
     match declared_sort(symbol) {
-        Some(sort) => is_declared(row, text, place.scope, sort, name),
+        Some(sort) => scope.is_declared(sort, name),
         None => false,
     }
 }
 
-// Whether a token is a lower head that is not declared. Linear in what is declared around it.
-pub fn is_undeclared(
-    row: &[u32],
-    text: &[u8],
-    place: Place,
-    symbol: Symbol,
-    class: Class,
-    name: &[u8],
-) -> bool
-    ensures { result ≡ is_missing (head_of (head_kind symbol class) name.now (scope_of row.now text.now place.scope)) }
+// The head that a token is, if it is declared nowhere around: an upper one names a unit. Linear in what is declared around it.
+fn undeclared(scope: Scope<'_>, symbol: Symbol, class: Class, name: &[u8]) -> Option<PathHead>
+    ensures missing { is_lower result ≡ is_missing (head_of (head_kind symbol class) name.now (entries_of scope.entry)) }
+    ensures unit { is_upper result ≡ is_unit (head_of (head_kind symbol class) name.now (entries_of scope.entry)) }
 {
-    match head_kind(symbol, class) {
-        HeadKind::LowerOf(sort) => is_nowhere(row, text, place.scope, sort, name),
-        HeadKind::NoHead | HeadKind::UpperOf => false,
-    }
+    let head = head_kind(symbol, class)?;
+    scope.is_nowhere(head.sort(), name).then_some(head)
 }
 
-// Whether a token is a head that names a unit: an upper one that is not declared. Linear in what is declared around it.
-pub fn names_unit(
-    row: &[u32],
-    text: &[u8],
-    place: Place,
-    symbol: Symbol,
-    class: Class,
-    name: &[u8],
-) -> bool
-    ensures { result ≡ is_unit (head_of (head_kind symbol class) name.now (scope_of row.now text.now place.scope)) }
+// What a token is told. Linear in what is declared around it.
+pub fn note_of(scope: Scope<'_>, place: Place, symbol: Symbol, class: Class, name: &[u8]) -> Note
+    requires { place.opened + 2 < 2 ^ 32 }
+    ensures deep { result.deep ≡ nat_lt 12 (raised (extra symbol class) place.opened) }
+    ensures again { result.again ≡ again_of (declaring symbol) name.now (entries_of scope.entry) }
+    ensures missing { result.missing ≡ is_missing (head_of (head_kind symbol class) name.now (entries_of scope.entry)) }
+    ensures unit { result.unit ≡ is_unit (head_of (head_kind symbol class) name.now (entries_of scope.entry)) }
 {
-    match head_kind(symbol, class) {
-        HeadKind::UpperOf => is_nowhere(row, text, place.scope, Sort::Module, name),
-        HeadKind::NoHead | HeadKind::LowerOf(_) => false,
+    let undeclared = undeclared(scope, symbol, class, name);
+    Note {
+        deep: OPEN_LIMIT < opened_at(symbol, class, place),
+        again: is_redeclared(scope, symbol, name),
+        missing: matches!(undeclared, Some(PathHead::Lower(_))),
+        unit: matches!(undeclared, Some(PathHead::Upper)),
     }
 }
 
@@ -84,10 +89,7 @@ pub fn names_unit(
 pub fn first(old: Option<usize>, bad: bool, place: usize) -> Option<usize>
     ensures { result ≡ first_of old bad place }
 {
-    match old {
-        Some(p) => Some(p),
-        None => { if bad { Some(place) } else { None } }
-    }
+    old.or(bad.then_some(place))
 }
 
 // The part of the text that is a token's name; an empty one where it is no name. Constant time.
@@ -101,7 +103,7 @@ pub fn span(class: Class, place: usize, end: usize) -> (usize, usize)
 }
 
 // The scope behind a token, and how many entries there are now.
-#[derive(Clone, Copy)]
+#[derive(Clone, Copy, PartialEq, Eq, Debug)]
 pub struct Entered {
     pub scope: u32,
     pub count: u32,
@@ -140,7 +142,7 @@ pub fn enter(
 pub const OPEN_LIMIT: u32 = 12;
 
 // The first places, so far, where too much is open, where a name is declared again, and where a head is not declared.
-#[derive(Clone, Copy)]
+#[derive(Clone, Copy, PartialEq, Eq, Debug, Default)]
 pub struct Firsts {
     pub deep: Option<usize>,
     pub again: Option<usize>,
@@ -149,37 +151,33 @@ pub struct Firsts {
     pub mention: Option<usize>,
 }
 
-// The first places after a token. Linear in what is declared around it.
-pub fn noted(
-    old: Firsts,
-    row: &[u32],
-    text: &[u8],
-    symbol: Symbol,
-    class: Class,
-    place: Place,
-    name: &[u8],
-    at: usize,
-    asked: usize,
-) -> Firsts
-    requires { place.opened + 2 < 2 ^ 32 }
-    ensures deep { result.deep ≡ first_of old.deep (nat_lt 12 (raised (extra symbol class) place.opened)) at }
-    ensures again { result.again ≡ first_of old.again (again_of (declaring symbol) name.now (scope_of row.now text.now place.scope)) at }
-    ensures missing { result.missing ≡ first_of old.missing (is_missing (head_of (head_kind symbol class) name.now (scope_of row.now text.now place.scope))) at }
-    ensures mention { result.mention ≡ first_of old.mention (is_unit (head_of (head_kind symbol class) name.now (scope_of row.now text.now place.scope)) && nat_le asked at) at }
-{
-    Firsts {
-        deep: first(old.deep, OPEN_LIMIT < opened_at(symbol, class, place), at),
-        again: first(old.again, is_redeclared(row, text, place, symbol, name), at),
-        missing: first(
-            old.missing,
-            is_undeclared(row, text, place, symbol, class, name),
-            at,
-        ),
-        mention: first(
-            old.mention,
-            names_unit(row, text, place, symbol, class, name) && asked <= at,
-            at,
-        ),
+impl Firsts {
+    // The first places after a token at a place that is told this, where heads are asked about from a place on. Constant time.
+    pub fn after(self, note: Note, at: usize, asked: usize) -> Firsts
+        ensures deep { result.deep ≡ first_of self.deep note.deep at }
+        ensures again { result.again ≡ first_of self.again note.again at }
+        ensures missing { result.missing ≡ first_of self.missing note.missing at }
+        ensures mention { result.mention ≡ first_of self.mention (note.unit && nat_le asked at) at }
+    {
+        Firsts {
+            deep: first(self.deep, note.deep, at),
+            again: first(self.again, note.again, at),
+            missing: first(self.missing, note.missing, at),
+            mention: first(self.mention, note.unit && asked <= at, at),
+        }
+    }
+
+    // The first question that is answered with no, if there is one: too deep, then declared again, then not declared. Constant time.
+    pub fn verdict(self) -> Result<(), ReadFault>
+        ensures { result ≡ answered (ask_firsts self.deep self.again self.missing) }
+    {
+        let deep = self.deep.map(ReadFault::TooDeep);
+        let again = self.again.map(ReadFault::Redeclared);
+        let missing = self.missing.map(ReadFault::Undeclared);
+        match deep.or(again).or(missing) {
+            Some(fault) => Err(fault),
+            None => Ok(()),
+        }
     }
 }
 
@@ -196,20 +194,4 @@ pub(crate) fn list_place(places: &mut [u32], count: usize, wanted: bool, place: 
     } else {
         count
     }
-}
-
-// The first question that is answered with no, if there is one: too deep, then declared again, then not declared. Constant time.
-pub fn verdict(firsts: Firsts) -> Result<(), ReadFault>
-    ensures { result ≡ answered (ask_firsts firsts.deep firsts.again firsts.missing) }
-{
-    if let Some(p) = firsts.deep {
-        return Err(ReadFault::TooDeep(p));
-    }
-    if let Some(p) = firsts.again {
-        return Err(ReadFault::Redeclared(p));
-    }
-    if let Some(p) = firsts.missing {
-        return Err(ReadFault::Undeclared(p));
-    }
-    Ok(())
 }

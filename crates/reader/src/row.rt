@@ -1,66 +1,69 @@
 // Scopes in lent words: a row of entries of four words, each with the number of the entry around it.
 ghost use Rattle.std.specs.Prelude.{◌≡◌, ◌+◌, ◌*◌, ◌^◌, ◌<◌, ◌≤◌, length, slice_index};
 ghost use Rattle.reader.specs.Frames.{four_at};
-ghost use Rattle.reader.specs.Scopes.{same_sort, is_declared, seek, is_component, is_sought, is_itself};
-ghost use Rattle.reader.specs.Rows.{binder_number, binder_at, part_of, entry_at, parent_at, scope_of, is_nowhere};
+ghost use Rattle.reader.specs.Scopes.{is_declared, seek, is_component, is_sought};
+ghost use Rattle.reader.specs.Rows.{binder_number, part_of, entry_at, parent_at, scope_of, is_nowhere, binding_of};
 
 use super::scope::{Binder, Sort};
-use tokens::token::same_bytes;
 
 // A word of a row; 0 behind its end. Constant time.
 fn word_at(row: &[u32], i: usize) -> u32
     ensures { result ≡ slice_index row.now i }
 {
-    if i < row.len() { row[i] } else { 0 }
-}
-
-// The number of a binder. Constant time.
-fn binder_number(binder: Binder) -> u32
-    ensures { result ≡ binder_number binder }
-{
-    match binder {
-        Binder::Itself => 0,
-        Binder::Component(Sort::Type) => 1,
-        Binder::Component(Sort::Value) => 2,
-        Binder::Component(Sort::Module) => 3,
-        Binder::Parameter => 4,
-        Binder::Variable => 5,
-    }
-}
-
-// The binder of a number. Constant time.
-fn binder_at(n: u32) -> Binder
-    ensures { result ≡ binder_at n }
-{
-    match n {
-        0 => Binder::Itself,
-        1 => Binder::Component(Sort::Type),
-        2 => Binder::Component(Sort::Value),
-        3 => Binder::Component(Sort::Module),
-        4 => Binder::Parameter,
-        _ => Binder::Variable,
-    }
+    row.get(i).copied().unwrap_or(0)
 }
 
 // The bytes of a text from a place to another; none where there is no such part. Constant time.
 pub fn part(text: &[u8], from: usize, end: usize) -> &[u8]
     ensures { result.now ≡ part_of text.now from end }
 {
-    if from <= end && end <= text.len() {
-        &text[from..end]
-    } else {
-        &[]
+    text.get(from..end).unwrap_or(&[])
+}
+
+// An entry of a scope: what it is, and its name; a structure or signature itself has none.
+#[derive(Clone, Copy, PartialEq, Eq, Debug)]
+pub struct Entry<'a> {
+    pub binder: Binder,
+    pub name: &'a [u8],
+}
+
+impl Entry<'_> {
+    // Whether an entry declares this name in this sort. Linear in the name.
+    fn is_component(self, sort: Sort, name: &[u8]) -> bool
+        ensures { result ≡ is_component sort name.now self.entry.binder self.entry.name.now }
+    {
+        match self.binder {
+            Binder::Component(s) => sort == s && name == self.name,
+            Binder::Itself | Binder::Parameter | Binder::Variable => false,
+        }
+    }
+
+    // Whether an entry is what this name of this sort is sought for. Linear in the name.
+    fn is_sought(self, sort: Sort, name: &[u8]) -> bool
+        ensures { result ≡ is_sought sort name.now self.entry.binder self.entry.name.now }
+    {
+        let bound = match self.binder {
+            Binder::Itself => return false,
+            Binder::Component(s) => s,
+            Binder::Parameter => Sort::Module,
+            Binder::Variable => Sort::Value,
+        };
+        sort == bound && name == self.name
     }
 }
 
-fn same_sort(a: Sort, b: Sort) -> bool
-    ensures { result ≡ same_sort a b }
+// The entry at a place of the row. Constant time.
+fn entry_at<'a>(row: &[u32], text: &'a [u8], i: u32) -> Entry<'a>
+    ensures { binding_of result ≡ entry_at row.now text.now i }
 {
-    match (a, b) {
-        (Sort::Type, Sort::Type) => true,
-        (Sort::Value, Sort::Value) => true,
-        (Sort::Module, Sort::Module) => true,
-        _ => false,
+    let at = 4 * i as usize;
+    Entry {
+        binder: Binder::from(word_at(row, at)),
+        name: part(
+            text,
+            word_at(row, at + 2) as usize,
+            word_at(row, at + 3) as usize,
+        ),
     }
 }
 
@@ -72,83 +75,48 @@ fn parent_at(row: &[u32], i: u32) -> u32
     if parent <= i { parent } else { 0 }
 }
 
-// The binder of the entry at a place. Constant time.
-fn entry_binder(row: &[u32], i: u32) -> Binder
-    ensures { result ≡ binder_at (slice_index row.now (4 * i)) }
-{
-    binder_at(word_at(row, 4 * i as usize))
+// What is declared at a place of a text: the entries from one of a number on outward, none where the number is 0.
+#[derive(Clone, Copy, PartialEq, Eq, Debug)]
+pub struct Scope<'a> {
+    pub row: &'a [u32],
+    pub text: &'a [u8],
+    pub number: u32,
 }
 
-// The name of the entry at a place. Constant time.
-fn entry_name<'a>(row: &[u32], text: &'a [u8], i: u32) -> &'a [u8]
-    ensures { result.now ≡ part_of text.now (slice_index row.now (4 * i + 2)) (slice_index row.now (4 * i + 3)) }
-{
-    part(
-        text,
-        word_at(row, 4 * i as usize + 2) as usize,
-        word_at(row, 4 * i as usize + 3) as usize,
-    )
-}
+impl<'a> Iterator for Scope<'a> {
+    ghost use Rattle.std.specs.Iterator.{YieldsFirstBy, item_count};
+    ghost use Rattle.reader.specs.Rows.{binding_of, entries_of};
 
-// Whether an entry declares this name in this sort. Linear in the name.
-fn is_component(binder: Binder, entry: &[u8], sort: Sort, name: &[u8]) -> bool
-    ensures { result ≡ is_component sort name.now binder entry.now }
-{
-    match binder {
-        Binder::Component(s) => same_sort(sort, s) && same_bytes(name, entry),
-        Binder::Itself | Binder::Parameter | Binder::Variable => false,
+    type Item = Entry<'a>;
+
+    ghost next_gives = { YieldsFirstBy binding_of entries_of };
+
+    ghost remaining = { item_count entries_of };
+
+    fn next(&mut self) -> Option<Entry<'a>> {
+        let at = self.number.checked_sub(1)?;
+        self.number = parent_at(self.row, at);
+        Some(entry_at(self.row, self.text, at))
     }
 }
 
-// Whether an entry is what this name of this sort is sought for. Linear in the name.
-fn is_sought(binder: Binder, entry: &[u8], sort: Sort, name: &[u8]) -> bool
-    ensures { result ≡ is_sought sort name.now binder entry.now }
-{
-    match binder {
-        Binder::Itself => false,
-        Binder::Component(s) => same_sort(sort, s) && same_bytes(name, entry),
-        Binder::Parameter => same_sort(sort, Sort::Module) && same_bytes(name, entry),
-        Binder::Variable => same_sort(sort, Sort::Value) && same_bytes(name, entry),
-    }
-}
+impl Scope<'_> {
+    ghost use Rattle.reader.specs.Rows.{entries_of};
 
-fn is_itself(binder: Binder) -> bool
-    ensures { result ≡ is_itself binder }
-{
-    matches!(binder, Binder::Itself)
-}
-
-// Whether a sort and name is declared already in the innermost structure or signature. Linear in what it has declared.
-pub fn is_declared(row: &[u32], text: &[u8], scope: u32, sort: Sort, name: &[u8]) -> bool
-    ensures { result ≡ is_declared sort name.now (scope_of row.now text.now scope) }
-{
-    let mut index = scope;
-    'outward: while index > 0 {
-        let binder = entry_binder(row, index - 1);
-        if is_itself(binder) {
-            return false;
-        }
-        if is_component(binder, entry_name(row, text, index - 1), sort, name) {
-            return true;
-        }
-        index = parent_at(row, index - 1);
+    // Whether a sort and name is declared already in the innermost structure or signature. Linear in what it has declared.
+    pub fn is_declared(self, sort: Sort, name: &[u8]) -> bool
+        ensures { result ≡ is_declared sort name.now (entries_of self.entry) }
+    {
+        self.take_while(|entry| entry.binder != Binder::Itself)
+            .any(|entry| entry.is_component(sort, name))
     }
-    false
-}
 
-// Whether a name of a sort is declared nowhere around. Linear in what is declared there.
-pub fn is_nowhere(row: &[u32], text: &[u8], scope: u32, sort: Sort, name: &[u8]) -> bool
-    ensures { result ≡ is_nowhere (seek sort name.now (scope_of row.now text.now scope)) }
-{
-    let mut index = scope;
-    'outward: while index > 0 {
-        let binder = entry_binder(row, index - 1);
-        if is_sought(binder, entry_name(row, text, index - 1), sort, name) {
-            return false;
-        }
-        index = parent_at(row, index - 1);
+    // Whether a name of a sort is declared nowhere around. Linear in what is declared there.
+    pub fn is_nowhere(mut self, sort: Sort, name: &[u8]) -> bool
+        ensures { result ≡ is_nowhere (seek sort name.now (entries_of self.entry)) }
+    {
+        !self.any(|entry| entry.is_sought(sort, name))
     }
-    true
 }
 
 // Adds an entry behind so many, and tells its number. Constant time.
@@ -159,7 +127,7 @@ pub fn append(row: &mut [u32], count: u32, binder: Binder, parent: u32, from: u3
     ensures row { row.new ≡ four_at row.old count (binder_number binder) parent from end }
 {
     let i = 4 * count as usize;
-    row[i] = binder_number(binder);
+    row[i] = u32::from(binder);
     row[i + 1] = parent;
     row[i + 2] = from;
     row[i + 3] = end;

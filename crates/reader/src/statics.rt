@@ -1,12 +1,10 @@
 // The second pass over a text that reads: the questions about what is open and what is declared.
-ghost use Rattle.std.specs.Prelude.{◌≡◌, ◌≤◌, true, length, Ok};
-ghost use Rattle.reader.specs.Annotate.{annotate, static_fault, first_where, names_unit, unit_places};
-ghost use Rattle.reader.specs.Firsts.{start_attrs, root_attrs, text_notes, answered};
+ghost use Rattle.std.specs.Prelude.{◌≡◌, ◌≤◌, true, length};
+ghost use Rattle.reader.specs.Firsts.{root_attrs, text_notes};
 ghost use Rattle.reader.specs.Frames.{symbols_of, attrs_of};
-ghost use Rattle.reader.specs.Named.{held};
 ghost use Rattle.reader.specs.Surveys.{SurveyOf, ListingOf, firsts_alone};
 ghost use Rattle.reader.specs.Parsing.{start_of, is_accepted};
-ghost use Rattle.reader.specs.Reading.{reads, default_rank, unit_start};
+ghost use Rattle.reader.specs.Reading.{reads, default_rank};
 ghost use Rattle.reader.specs.Streams.{stream_of};
 
 use super::attributes::{introduced, rules_of};
@@ -14,19 +12,12 @@ use super::class::Class;
 use super::classify::class_of;
 use super::fault::ReadFault;
 use super::frame::{Frame, Place, frame_at, push_frames, symbol_at};
-use super::notes::{Firsts, enter, list_place, names_unit, noted, place_of, span, verdict};
+use super::notes::{Firsts, enter, list_place, note_of, place_of, span};
 use super::parse::Start;
-use super::row::part;
+use super::row::{Scope, part};
 use super::table::expand;
 use cores::interface::Core;
 use tokens::lexer::next;
-
-// The words for frames, and the words for scopes.
-pub const HALF: usize = 32_768;
-
-// Of the words for scopes those that scopes take: four for each entry, and at most one entry for each byte. The rest is for the
-// places of heads.
-const ROW_WORDS: usize = 16_384;
 
 // Pushes the frames of what is to be read, and tells how many they are. Constant time.
 fn begin(frames: &mut [u32], start: Start) -> usize
@@ -48,7 +39,7 @@ fn begin(frames: &mut [u32], start: Start) -> usize
 // Goes through a text that reads, and tells the first places where too much is open, where a name is declared again, where a lower
 // head is not declared, and where, at or behind a place, a head names a unit; lists the places of all heads that name units, and
 // tells how many they are. Linear in the text times what is declared around its names.
-fn survey_all<C: Core>(
+pub fn go_through<C: Core>(
     core: &C,
     text: &[u8],
     frames: &mut [u32],
@@ -68,12 +59,7 @@ fn survey_all<C: Core>(
     let mut depth = begin(frames, start);
     let mut count = 0;
     let mut heads = 0;
-    let mut firsts = Firsts {
-        deep: None,
-        again: None,
-        missing: None,
-        mention: None,
-    };
+    let mut firsts = Firsts::default();
     let mut from = 0;
     'tokens: while let Some(found) = next(text, from)? {
         let symbol = symbol_at(frames, depth - 1);
@@ -85,19 +71,14 @@ fn survey_all<C: Core>(
         let place = place_of(symbol, class, frame);
         let name = span(class, found.place, found.end);
         let spelled = part(text, name.0, name.1);
-        firsts = noted(
-            firsts,
+        let scope = Scope {
             row,
             text,
-            symbol,
-            class,
-            place,
-            spelled,
-            found.place,
-            asked,
-        );
-        let is_head = names_unit(row, text, place, symbol, class, spelled);
-        heads = list_place(places, heads, is_head, found.place);
+            number: place.scope,
+        };
+        let note = note_of(scope, place, symbol, class, spelled);
+        firsts = firsts.after(note, found.place, asked);
+        heads = list_place(places, heads, note.unit, found.place);
         let entered = enter(
             row,
             count,
@@ -120,95 +101,12 @@ fn survey_all<C: Core>(
     }
     let last = symbol_at(frames, depth - 1);
     let place = place_of(last, Class::TextEnd, frame_at(frames, depth - 1));
-    let told = noted(
-        firsts,
+    let scope = Scope {
         row,
         text,
-        last,
-        Class::TextEnd,
-        place,
-        &[],
-        text.len(),
-        asked,
-    );
+        number: place.scope,
+    };
+    let note = note_of(scope, place, last, Class::TextEnd, &[]);
+    let told = firsts.after(note, text.len(), asked);
     Ok((told, heads))
-}
-
-// Goes through a text that reads, and tells the first places where too much is open, where a name is declared again, where a lower
-// head is not declared, and where, at or behind a place, a head names a unit. Linear in the text times what is declared around its names.
-fn survey<C: Core>(
-    core: &C,
-    text: &[u8],
-    frames: &mut [u32],
-    row: &mut [u32],
-    start: Start,
-    asked: usize,
-) -> Result<Firsts, ReadFault>
-    requires text_len_bound { length text.now ≤ 4_000 }
-    requires frames_len { length frames.old ≡ 32_768 }
-    requires row_len { length row.old ≡ 32_768 }
-    requires accepted { is_accepted (reads (start_of start) (stream_of C.Core.words text.now) default_rank) ≡ true }
-    ensures { SurveyOf asked (annotate (start_of start) (start_attrs start) (stream_of C.Core.words text.now)) result }
-{
-    let (scopes, places) = row.split_at_mut(ROW_WORDS);
-    match survey_all(core, text, frames, scopes, places, start, asked) {
-        Ok((firsts, _)) => Ok(firsts),
-        Err(fault) => Err(fault),
-    }
-}
-
-// Asks a text that reads whether too much is open at a token, whether a name is declared again, and whether a lower head is
-// not declared. Linear in the text times what is declared around its names.
-pub fn ask_statics<C: Core>(
-    core: &C,
-    text: &[u8],
-    frames: &mut [u32],
-    row: &mut [u32],
-    start: Start,
-) -> Result<(), ReadFault>
-    requires text_len_bound { length text.now ≤ 4_000 }
-    requires frames_len { length frames.old ≡ 32_768 }
-    requires row_len { length row.old ≡ 32_768 }
-    requires accepted { is_accepted (reads (start_of start) (stream_of C.Core.words text.now) default_rank) ≡ true }
-    ensures { result ≡ answered (static_fault (annotate (start_of start) (start_attrs start) (stream_of C.Core.words text.now))) }
-{
-    let firsts = survey(core, text, frames, row, start, 0)?;
-    verdict(firsts)
-}
-
-// The place of the first head, at or behind a place, that names a unit, in a text that reads. Linear in the text times what is
-// declared around its names.
-pub fn unit_mention<C: Core>(
-    core: &C,
-    text: &[u8],
-    frames: &mut [u32],
-    row: &mut [u32],
-    asked: usize,
-) -> Result<Option<usize>, ReadFault>
-    requires text_len_bound { length text.now ≤ 4_000 }
-    requires frames_len { length frames.old ≡ 32_768 }
-    requires row_len { length row.old ≡ 32_768 }
-    requires accepted { is_accepted (reads unit_start (stream_of C.Core.words text.now) default_rank) ≡ true }
-    ensures { result ≡ Ok (first_where (names_unit asked) (annotate unit_start (start_attrs Start.«Unit») (stream_of C.Core.words text.now))) }
-{
-    let firsts = survey(core, text, frames, row, Start::Unit, asked)?;
-    Ok(firsts.mention)
-}
-
-// The places of the heads that name units, of a text that reads. Linear in the text times what is declared around its names.
-pub(crate) fn list_heads<'s, C: Core>(
-    core: &C,
-    text: &[u8],
-    scratch: &'s mut [u32],
-    start: Start,
-) -> Result<&'s [u32], ReadFault>
-    requires text_len_bound { length text.now ≤ 4_000 }
-    requires scratch_len { length scratch.old ≡ 65_536 }
-    requires accepted { is_accepted (reads (start_of start) (stream_of C.Core.words text.now) default_rank) ≡ true }
-    ensures { held result ≡ Ok (unit_places (text_notes start C.Core.words text.now)) }
-{
-    let (frames, rest) = scratch.split_at_mut(HALF);
-    let (row, places) = rest.split_at_mut(ROW_WORDS);
-    let (_, heads) = survey_all(core, text, frames, row, places, start, 0)?;
-    Ok(&places[..heads])
 }

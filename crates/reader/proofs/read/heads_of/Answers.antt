@@ -1,21 +1,20 @@
-use Rattle.std.proofs.Common.{◌≡◌, ◌≤◌, length, Err, ap, ◌∙◌, arith}
-use Rattle.std.proofs.lemmas.Result.{err_from_is_err_and}
+use Rattle.std.proofs.Common.{◌≡◌, length, Ok, rules}
+use Rattle.reader.specs.Mentions.{heads_answer}
 use Rattle.reader.specs.Named.{held}
-use Rattle.reader.proofs.Heads.{heads_refused, heads_listed}
+use Rattle.reader.proofs.Heads.{heads_so, heads_inside}
 use Rattle.reader.proofs.read.heads_of.Goals as goal
 
-pub returns-in_err-parse : goal.returns-in_err-parse
-returns-in_err-parse g c =
-    let p = err_from_is_err_and c.from_residual.result c.from_residual.ensures.1 in
-    let room : length c.args.scratch.now ≡ 65536 = omega arith in
-    let short : length c.args.text.now ≤ 4000 = omega arith in
-    ap held p.1 ∙ ap Err p.2
-    ∙ heads_refused c.args.start g.C.Core.words c.args.text.now (length c.args.scratch.now) room short
-    c.in_err-parse.field-0.0 c.in_err-parse.ensures
+pub returns-in_err-found-clause-meaning : goal.returns-in_err-found-clause-meaning
+returns-in_err-found-clause-meaning g c =
+    let a : held c.from_residual.result ≡ heads_answer c.args.start g.C.Core.words c.args.text.now (length c.args.scratch.now) = search rules in
+    heads_so c.args.start g.C.Core.words c.args.text.now (length c.args.scratch.now) (held c.from_residual.result) a
 
-pub returns : goal.returns
-returns g c =
-    let room : length c.args.scratch.now ≡ 65536 = omega arith in
-    let short : length c.args.text.now ≤ 4000 = omega arith in
-    heads_listed c.args.start g.C.Core.words c.args.text.now (length c.args.scratch.now) room short
-    c.in_ok-parse.field-0 (held c.list_heads.result) c.in_ok-parse.ensures c.list_heads.ensures
+pub returns-clause-meaning : goal.returns-clause-meaning
+returns-clause-meaning g c =
+    let a : held (Ok c.in_ok-found.found.heads) ≡ heads_answer c.args.start g.C.Core.words c.args.text.now (length c.args.scratch.now) = search rules in
+    heads_so c.args.start g.C.Core.words c.args.text.now (length c.args.scratch.now) (Ok c.in_ok-found.found.heads.now) a
+
+pub returns-clause-inside : goal.returns-clause-inside
+returns-clause-inside g c =
+    let a : held (Ok c.in_ok-found.found.heads) ≡ heads_answer c.args.start g.C.Core.words c.args.text.now (length c.args.scratch.now) = search rules in
+    heads_inside c.args.start g.C.Core.words c.args.text.now (length c.args.scratch.now) (Ok c.in_ok-found.found.heads.now) a

@@ -3,7 +3,7 @@ use Rattle.reader.specs.Frames.{symbols_of, attrs_of}
 use Rattle.reader.proofs.Begun.{begun_notes}
 use Rattle.reader.proofs.Turns.{State}
 use Rattle.reader.proofs.Noting.{Noting}
-use Rattle.reader.proofs.statics.survey_all.Given as goal
+use Rattle.reader.proofs.statics.go_through.Given as goal
 
 -- what lies on the stack reads the rest of the text, and its notes complete the first places and the places of heads
 abbrev pub invariant-tokens : goal.invariant-tokens

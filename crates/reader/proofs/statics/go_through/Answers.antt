@@ -1,25 +1,31 @@
-use Rattle.std.proofs.Common.{◌≡◌, ◌-◌, List, ◌++◌, take, Some, Ok, sym, ap, ◌∙◌, subst, arith}
+use Rattle.std.proofs.Common.{◌≡◌, ℕ, ◌-◌, Bool, ◌&&◌, leb, Option, length, List, [], ◌++◌, take, Some, Ok, sym, ap, ◌∙◌, subst, arith}
 use Rattle.tokens.specs.Lexer.{view, token, told, next_token}
 use Rattle.tokens.proofs.Walk.{advance}
 use Rattle.reader.specs.declared.class.Class.{Class}
+use Rattle.reader.specs.declared.notes.Firsts.{Firsts}
 use Rattle.reader.specs.declared.symbol.Symbol.{Symbol}
 use Rattle.reader.specs.Annotate.{inherits, first_where, is_too_deep, is_again, is_undeclared, names_unit, unit_places}
-use Rattle.reader.specs.Firsts.{listed, EnteredRow}
+use Rattle.reader.specs.Firsts.{first_of, listed, EnteredRow}
 use Rattle.reader.specs.Frames.{symbols_of, attrs_of, attr_of, placed, symbol_kept}
 use Rattle.reader.specs.Reading.{learn}
 use Rattle.reader.specs.Tokens.{token_of}
-use Rattle.reader.proofs.Begun.{begun_notes, begun_deep, begun_state, begun_noting, all_notes, ok_of}
+use Rattle.reader.proofs.Begun.{begun_notes, begun_deep, begun_state, begun_noting, none_yet, all_notes, ok_of}
 use Rattle.reader.proofs.Capacity.{sealed_frames}
+use Rattle.reader.proofs.Noting.{Noting}
 use Rattle.reader.proofs.Passes.{room, never_stuck, next_state, room_after, never_broken, small_place, next_noting, last_firsts, last_heads}
 use Rattle.reader.proofs.Turns.{State, found_proper}
 use Rattle.reader.proofs.Places.{span_low, place_low}
-use Rattle.reader.proofs.statics.survey_all.Given as given
-use Rattle.reader.proofs.statics.survey_all.Goals as goal
-use Rattle.reader.proofs.statics.survey_all.Goals.{In-Some}
+use Rattle.reader.proofs.statics.go_through.Given as given
+use Rattle.reader.proofs.statics.go_through.Goals as goal
+use Rattle.reader.proofs.statics.go_through.Goals.{In-Some}
 
 -- the token of this turn is the next one of the text
 here : (g : given.Over) (c : In-Some g) → next_token c.args.text.now c.tokens.from ≡ token (view c.in-Some.found.token) c.in-Some.found.place c.in-Some.found.end
 here g c = sym c.in_ok-found.ensures ∙ ap (λ o. told (Ok o)) c.in-Some.is
+
+-- a first place by what a token is told
+after_note : (old : Option ℕ) (p : ℕ) {new : Option ℕ} {b b' : Bool} → new ≡ first_of old b p → b ≡ b' → new ≡ first_of old b' p
+after_note old p e f = e ∙ ap (λ (b : Bool). first_of old b p) f
 
 pub tokens-init : goal.tokens-init
 tokens-init g c =
@@ -35,7 +41,9 @@ tokens-init g c =
       r,
       omega arith,
       (100, s),
-      begun_noting g.C.Core.words c.args.text.now c.args.asked c.args.row.now w d c.args.start c.begin-depth.ensures.attrs,
+      subst (λ (f : Firsts). Noting g.C.Core.words c.args.text.now c.args.asked (begun_notes g.C.Core.words c.args.text.now c.args.row.now w d) (symbols_of w d) (attrs_of w d) c.args.row.now 0 0 f [])
+          (sym (none_yet c.default-firsts.result c.default-firsts.ensures))
+          (begun_noting g.C.Core.words c.args.text.now c.args.asked c.args.row.now w d c.args.start c.begin-depth.ensures.attrs),
       omega arith,
     )
 
@@ -65,8 +73,8 @@ pub frame_at-frame-requires : goal.frame_at-frame-requires
 frame_at-frame-requires g c =
     let i = c.tokens.invariant in omega (arith, i.0, i.1, i.2, c.requires.text_len_bound, c.requires.frames_len, c.tokens.auto.frames, c.begin-depth.auto)
 
-pub noted-firsts-requires : goal.noted-firsts-requires
-noted-firsts-requires g c =
+pub note_of-note-requires : goal.note_of-note-requires
+note_of-note-requires g c =
     let ok = ok_of g.C.Core.words c.args.text.now c.begin-depth.new.frames c.begin-depth.result c.args.start c.begin-depth.ensures.symbols c.requires.accepted in
     let i = c.tokens.invariant in
     let s = small_place g.C.Core.words c.args.text.now (symbols_of c.begin-depth.new.frames c.begin-depth.result) c.tokens.frames c.tokens.depth c.tokens.from i.4.0 i.4.1 i.1 i.0 ok c.args.asked (begun_notes g.C.Core.words c.args.text.now c.args.row.now c.begin-depth.new.frames c.begin-depth.result) c.tokens.row c.tokens.count c.tokens.firsts (take c.tokens.heads c.tokens.places) i.5 c.symbol_at-symbol.result c.class_of-class.result c.frame_at-frame.result c.place_of-place.result c.frame_at-frame.ensures c.place_of-place.ensures in
@@ -143,10 +151,13 @@ tokens-preserved g c =
     let deep = sealed_frames c.push_frames-depth.new.words c.push_frames-depth.result s'.closed in
     let en = c.enter-entered.ensures in
     let n = next_noting g.C.Core.words c.args.text.now (symbols_of c.begin-depth.new.frames c.begin-depth.result) c.tokens.frames c.tokens.depth c.tokens.from i.4.0 i.4.1 i.1 i.0 ok c.args.asked (begun_notes g.C.Core.words c.args.text.now c.args.row.now c.begin-depth.new.frames c.begin-depth.result) c.tokens.row c.tokens.count c.tokens.firsts (take c.tokens.heads c.tokens.places) i.5 (view c.in-Some.found.token) c.in-Some.found.place c.in-Some.found.end c.symbol_at-symbol.result c.class_of-class.result now c.symbol_at-symbol.ensures c.class_of-class.ensures c.deref.result.now row c.frame_at-frame.result c.place_of-place.result c.frame_at-frame.ensures c.place_of-place.ensures
-    c.span-name.result c.span-name.ensures c.part-spelled.result.now c.part-spelled.ensures c.enter-entered.new.row c.enter-entered.result.scope c.enter-entered.result.count c.noted-firsts.result (take c.list_place-heads.result c.list_place-heads.new.places)
+    c.span-name.result c.span-name.ensures c.part-spelled.result.now c.part-spelled.ensures c.enter-entered.new.row c.enter-entered.result.scope c.enter-entered.result.count c.after-firsts.result (take c.list_place-heads.result c.list_place-heads.new.places)
     (subst (λ b. EnteredRow c.tokens.row c.enter-entered.new.row c.tokens.count b c.place_of-place.result.scope c.span-name.result.0 c.span-name.result.1 c.enter-entered.result.scope c.enter-entered.result.count) c.introduced.ensures en)
-    c.noted-firsts.ensures.deep c.noted-firsts.ensures.again c.noted-firsts.ensures.missing c.noted-firsts.ensures.mention
-    (c.list_place-heads.ensures.places ∙ ap (λ b. listed (take c.tokens.heads c.tokens.places) b c.in-Some.found.place) c.names_unit-is_head.ensures)
+    (after_note c.tokens.firsts.deep c.in-Some.found.place c.after-firsts.ensures.deep c.note_of-note.ensures.deep)
+    (after_note c.tokens.firsts.again c.in-Some.found.place c.after-firsts.ensures.again c.note_of-note.ensures.again)
+    (after_note c.tokens.firsts.missing c.in-Some.found.place c.after-firsts.ensures.missing c.note_of-note.ensures.missing)
+    (after_note c.tokens.firsts.mention c.in-Some.found.place c.after-firsts.ensures.mention (ap (λ (b : Bool). b && leb c.args.asked c.in-Some.found.place) c.note_of-note.ensures.unit))
+    (c.list_place-heads.ensures.places ∙ ap (λ b. listed (take c.tokens.heads c.tokens.places) b c.in-Some.found.place) c.note_of-note.ensures.unit)
     c.push_frames-depth.new.words c.push_frames-depth.result syms
     (c.push_frames-depth.ensures.attrs ∙ ap (λ rs. inherits c.deref.result.now rs (attr_of c.frame_at-frame.result) (placed c.place_of-place.result) c.enter-entered.result.scope ++ attrs_of c.tokens.frames (c.tokens.depth - 1)) c.rules_of.ensures) in
     (adv.inside, deep, omega (arith, r, c.push_frames-depth.ensures.depth), n.few, ((learn (symbol_kept c.tokens.frames (c.tokens.depth - 1)) (token_of g.C.Core.words (view c.in-Some.found.token)) c.tokens.invariant.4.0), s'), n, omega (arith, c.list_place-heads.ensures.few, adv.forward, i.6))
@@ -159,8 +170,8 @@ pub frame_at-requires : goal.frame_at-requires
 frame_at-requires g c =
     let i = c.tokens.invariant in omega (arith, i.0, i.1, i.2, c.requires.text_len_bound, c.requires.frames_len, c.tokens.auto.frames, c.begin-depth.auto)
 
-pub noted-told-requires : goal.noted-told-requires
-noted-told-requires g c =
+pub note_of-note-requires-2 : goal.note_of-note-requires-2
+note_of-note-requires-2 g c =
     let ok = ok_of g.C.Core.words c.args.text.now c.begin-depth.new.frames c.begin-depth.result c.args.start c.begin-depth.ensures.symbols c.requires.accepted in
     let i = c.tokens.invariant in
     let s = small_place g.C.Core.words c.args.text.now (symbols_of c.begin-depth.new.frames c.begin-depth.result) c.tokens.frames c.tokens.depth c.tokens.from i.4.0 i.4.1 i.1 i.0 ok c.args.asked (begun_notes g.C.Core.words c.args.text.now c.args.row.now c.begin-depth.new.frames c.begin-depth.result) c.tokens.row c.tokens.count c.tokens.firsts (take c.tokens.heads c.tokens.places) i.5 c.symbol_at-last.result Class.TextEnd c.frame_at.result c.place_of-place-2.result c.frame_at.ensures c.place_of-place-2.ensures in
@@ -171,8 +182,11 @@ returns g c =
     let ok = ok_of g.C.Core.words c.args.text.now c.begin-depth.new.frames c.begin-depth.result c.args.start c.begin-depth.ensures.symbols c.requires.accepted in
     let i = c.tokens.invariant in
     let done = sym c.in_ok-found.ensures ∙ ap (λ o. told (Ok o)) c.in_default.is in
-    let l = last_firsts g.C.Core.words c.args.text.now (symbols_of c.begin-depth.new.frames c.begin-depth.result) c.tokens.frames c.tokens.depth c.tokens.from i.4.0 i.4.1 i.1 i.0 ok c.args.asked (begun_notes g.C.Core.words c.args.text.now c.args.row.now c.begin-depth.new.frames c.begin-depth.result) c.tokens.row c.tokens.count c.tokens.firsts (take c.tokens.heads c.tokens.places) i.5 c.symbol_at-last.result c.frame_at.result c.place_of-place-2.result c.noted-told.result done c.symbol_at-last.ensures c.frame_at.ensures c.place_of-place-2.ensures
-    c.noted-told.ensures.deep c.noted-told.ensures.again c.noted-told.ensures.missing c.noted-told.ensures.mention in
+    let l = last_firsts g.C.Core.words c.args.text.now (symbols_of c.begin-depth.new.frames c.begin-depth.result) c.tokens.frames c.tokens.depth c.tokens.from i.4.0 i.4.1 i.1 i.0 ok c.args.asked (begun_notes g.C.Core.words c.args.text.now c.args.row.now c.begin-depth.new.frames c.begin-depth.result) c.tokens.row c.tokens.count c.tokens.firsts (take c.tokens.heads c.tokens.places) i.5 c.symbol_at-last.result c.frame_at.result c.place_of-place-2.result c.after-told.result done c.symbol_at-last.ensures c.frame_at.ensures c.place_of-place-2.ensures
+    (after_note c.tokens.firsts.deep (length c.args.text.now) c.after-told.ensures.deep c.note_of-note-2.ensures.deep)
+    (after_note c.tokens.firsts.again (length c.args.text.now) c.after-told.ensures.again c.note_of-note-2.ensures.again)
+    (after_note c.tokens.firsts.missing (length c.args.text.now) c.after-told.ensures.missing c.note_of-note-2.ensures.missing)
+    (after_note c.tokens.firsts.mention (length c.args.text.now) c.after-told.ensures.mention (ap (λ (b : Bool). b && leb c.args.asked (length c.args.text.now)) c.note_of-note-2.ensures.unit)) in
     let same = all_notes g.C.Core.words c.args.text.now c.args.row.now c.begin-depth.new.frames c.begin-depth.result c.args.start c.begin-depth.ensures.symbols c.begin-depth.ensures.attrs in
     let h = last_heads g.C.Core.words c.args.text.now (symbols_of c.begin-depth.new.frames c.begin-depth.result) c.tokens.frames c.tokens.depth c.tokens.from i.4.0 i.4.1 i.1 i.0 ok c.args.asked (begun_notes g.C.Core.words c.args.text.now c.args.row.now c.begin-depth.new.frames c.begin-depth.result) c.tokens.row c.tokens.count c.tokens.firsts (take c.tokens.heads c.tokens.places) i.5 done in
     record {
