@@ -68,10 +68,10 @@ mod tests {
         // The first byte of the name of the k-th unit in load order.
         fn ordered(&mut self, k: usize) -> Result<Option<u8>, Told> {
             let order = load_order(&MiniMl, &self.store, &mut self.scratch).map_err(told)?;
-            let Some(place) = order.places.iter().take(order.count).nth(k) else {
+            let Some(&place) = order.as_slice().get(k) else {
                 return Ok(None);
             };
-            let named = name_of(&self.store, usize::from(*place));
+            let named = name_of(&self.store, usize::from(place));
             Ok(named.and_then(|(name, _)| name.first().copied()))
         }
 

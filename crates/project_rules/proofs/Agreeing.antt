@@ -1,6 +1,5 @@
 -- Views of units that agree are arranged alike, and the check of a project follows from what arranging answers.
-use Rattle.std.proofs.Common.{◌≡◌, ℕ, zero, suc, ◌-◌, ◌<◌, ◌≤◌, Bool, true, false, cond, not, ◌&&◌, ◌||◌, ltb, List, [], ◌∷◌, length, take, replicate, IfSome, Some, None, Ok, Err, Option, sym, refl, ap, ◌∙◌, subst, ap₂, arith}
-use Rattle.std.proofs.lemmas.List.{take_at}
+use Rattle.std.proofs.Common.{◌≡◌, ℕ, zero, suc, ◌<◌, ◌≤◌, Bool, true, false, cond, not, ◌&&◌, ◌||◌, ltb, List, [], ◌∷◌, length, IfSome, Some, None, Ok, Err, Option, sym, refl, ap, ◌∙◌, subst, ap₂, arith}
 use Rattle.std.proofs.lemmas.Bool.{ltb-true}
 use Rattle.types.specs.Types.{Ty}
 use Rattle.cores.specs.Meaning.{Outcome}
@@ -11,11 +10,10 @@ use Rattle.order.specs.Compare.{number, compared, settled, by_name, earlier}
 use Rattle.order.specs.Least.{kept, best}
 use Rattle.order.specs.Picking.{all_below, ready, next, has, also, turn, picks, load_order}
 use Rattle.order.specs.Reaching.{reach, cyclic, missing, cycle}
-use Rattle.order.specs.Answer.{order_of_places, unless, arranged}
+use Rattle.order.specs.Answer.{unless, arranged}
 use Rattle.order.proofs.LeastOf.{best_within}
-use Rattle.checker.specs.Units.{check_units}
-use Rattle.project_rules.specs.Project.{seen, order_of, units_at}
-use Rattle.project_rules.specs.Check.{unless_told, of_units, lacking_at, circular_at, check_in_turn, check_project}
+use Rattle.project_rules.specs.Project.{seen, order_of}
+use Rattle.project_rules.specs.Check.{unless_told, lacking_at, circular_at, check_in_turn, check_project}
 use Rattle.project_rules.specs.Statements.{Agree, ByArranging, ArrangingLaw}
 
 -- the least marked place, by marks and a comparison that agree
@@ -89,20 +87,17 @@ module _ (v w : Units) (a : Agree v w) where
   pub arranged_agrees : arranged v ≡ arranged w
   arranged_agrees =
       ap₂ (λ n r. cond (ltb 16 n) (Err TooMany) r) a.count
-      (ap₂ (λ o r. unless o Missing r) missing_agrees (ap₂ (λ o ps. unless o Cycle (Ok (order_of_places ps))) cycle_agrees load_order_agrees))
+      (ap₂ (λ o r. unless o Missing r) missing_agrees (ap₂ (λ o ps. unless o Cycle (Ok ps)) cycle_agrees load_order_agrees))
 
 pub arranging_law : {C : Type 0} (rule : Operation → List Ty → Outcome C) → ArrangingLaw rule
 arranging_law rule us v a =
     subst (λ r. ByArranging rule us r (check_project rule us)) (sym (arranged_agrees v (seen us) a))
     (go (ltb 16 (length us)) refl (missing (seen us)) (cycle (seen us)))
   where
-    whole : order_of us ≡ take (length (order_of us)) (order_of_places (order_of us)).places
-    whole = sym (take_at (order_of us) (replicate (16 - length (order_of us)) 0) (length (order_of us)) refl)
-
     go : (b : Bool) → ltb 16 (length us) ≡ b → (o p : Option ℕ) →
-        ByArranging rule us (cond b (Err TooMany) (unless o Missing (unless p Cycle (Ok (order_of_places (order_of us))))))
+        ByArranging rule us (cond b (Err TooMany) (unless o Missing (unless p Cycle (Ok (order_of us)))))
         (unless_told o (lacking_at us) (unless_told p (circular_at us) (check_in_turn rule us)))
     go true e o p = ltb-true 16 (length us) e
     go false e (Some i) p = refl
     go false e None (Some i) = refl
-    go false e None None = ap (λ ps. of_units (check_units rule (units_at us ps))) whole
+    go false e None None = refl

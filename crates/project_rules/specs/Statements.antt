@@ -1,5 +1,5 @@
 -- What holds of the check of a project and of fit, over every core whose rule keeps the law of cores.
-use Rattle.std.specs.Prelude.{◌≡◌, ℕ, ◌<◌, ◌≤◌, true, ◌⊎◌, ◌↔◌, List, [], ◌∷◌, ◌++◌, length, take, Ok, Err, Result}
+use Rattle.std.specs.Prelude.{◌≡◌, ℕ, ◌<◌, ◌≤◌, true, ◌⊎◌, ◌↔◌, List, [], ◌∷◌, ◌++◌, length, Ok, Err, Result}
 use Rattle.types.specs.Types.{Name, Ty}
 use Rattle.cores.specs.Meaning.{Outcome}
 use Rattle.cores.specs.declared.interface.Operation.{Operation}
@@ -136,7 +136,7 @@ pub record Agree (v w : Seen) : Type 0 where
 
 -- what the check answers, from what arranging answered
 abbrev pub ByArranging : {C : Type 0} → (Operation → List Ty → Outcome C) → List ProjectUnit → Result Order Unarranged → ProjectAnswer C → Type 0
-ByArranging rule us (Ok o) a = a ≡ of_units (check_units rule (units_at us (take o.count o.places)))
+ByArranging rule us (Ok o) a = a ≡ of_units (check_units rule (units_at us o))
 ByArranging rule us (Err TooMany) a = 16 < length us
 ByArranging rule us (Err (Missing i)) a = a ≡ lacking_at us i
 ByArranging rule us (Err (Cycle i)) a = a ≡ circular_at us i
