@@ -1,6 +1,5 @@
 // Tokens, and the words and marks that the language fixes.
 ghost use Rattle.std.specs.Prelude.{◌≡◌};
-ghost use Rattle.std.specs.Str.{bytes_eq};
 ghost use Rattle.tokens.specs.Keywords.{keyword_of};
 
 // The nine marks: ( ) : = , . -> [@@ ]
@@ -40,13 +39,6 @@ pub enum Token<'a> {
     Lower(&'a [u8]),
     Upper(&'a [u8]),
     Integer(&'a [u8]),
-}
-
-// Whether two runs of bytes are the same. Linear in the shorter one.
-pub fn same_bytes(a: &[u8], b: &[u8]) -> bool
-    ensures { result ≡ bytes_eq a.now b.now }
-{
-    a == b
 }
 
 // The keyword that these bytes spell, if they spell one. Constant time.
