@@ -86,7 +86,7 @@ lookup_raised b j (w ∷ ws) x =
     go false = refl
 
 lookup_bound : (j : ℕ) (ws : List Word) (x : Name) (f : Found) → lookup_from j ws x ≡ Some f → f.number < j + length ws
-lookup_bound j [] x f e = absurd (let z : ◌≡◌ {A = Bool} false true = cc in false≢true z)
+lookup_bound j [] x f e = absurd (cc)
 lookup_bound j (w ∷ ws) x f e = go (bytes_eq x w.name) e (lookup_bound (suc j) ws x f)
   where
     go : (c : Bool) → cond c (Some (record { number = j; kind = w.kind })) (lookup_from (suc j) ws x) ≡ Some f →

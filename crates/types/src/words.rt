@@ -19,11 +19,11 @@ pub enum Node {
 pub struct NumberTooLong;
 
 // The first words of the labels with 0, 1 and 2 parts.
-const LABEL0: u32 = 0x4000_0000;
+pub const LABEL0: u32 = 0x4000_0000;
 
-const LABEL1: u32 = 0x8000_0000;
+pub const LABEL1: u32 = 0x8000_0000;
 
-const LABEL2: u32 = 0xC000_0000;
+pub const LABEL2: u32 = 0xC000_0000;
 
 // What a word says: its top two bits tell leaf and labels apart, the others are the number. Constant time.
 impl From<u32> for Node {
