@@ -55,7 +55,9 @@ pub fn word_text<C: Core>(
     };
     let text = match kind {
         Kind::Label(parts) => format!(in heap; "{number} {name}: label, {parts} parts")?,
-        Kind::Operator(arguments) => format!(in heap; "{number} {name}: operator, {arguments} arguments")?,
+        Kind::Operator(arguments) => format!(in heap;
+            "{number} {name}: operator, {arguments} arguments"
+        )?,
     };
     Ok(Some(text))
 }

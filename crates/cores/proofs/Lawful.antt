@@ -65,10 +65,10 @@ no_pointer n = grind (arith, nat_tests)
 
 pointer_where : (o : Operation) (n : ℕ) → pointer_at (c_line o) n ≡ true ↔ ((n ≡ 1) × ((o ≡ Operator 6) ⊎ (o ≡ Operator 7)))
 pointer_where Literal n =
-    ((λ e. absurd (false≢true e)), (λ h. elim h.1 [ inl e ↦ absurd (let z : ◌≡◌ {A = Bool} false true = cc in false≢true z) | inr e ↦ absurd (let z : ◌≡◌ {A = Bool} false true = cc in false≢true z) ]))
+    ((λ e. absurd (false≢true e)), (λ h. elim h.1 [ inl e ↦ absurd (cc) | inr e ↦ absurd (cc) ]))
 pointer_where Function n = (
   (λ e. absurd (false≢true (sym (no_pointer n) ∙ e))),
-  (λ h. elim h.1 [ inl e ↦ absurd (let z : ◌≡◌ {A = Bool} false true = cc in false≢true z) | inr e ↦ absurd (let z : ◌≡◌ {A = Bool} false true = cc in false≢true z) ]),
+  (λ h. elim h.1 [ inl e ↦ absurd (cc) | inr e ↦ absurd (cc) ]),
 )
 pointer_where (Operator m) n = ((λ e. forth (sym (pointer_test m n) ∙ e)), (λ h. pointer_test m n ∙ back h.0 h.1))
   where
@@ -128,7 +128,7 @@ module _ {K : Type 0} (es : List Entry) (b : ℕ) (below : Operation → List Ty
       over : (n : ℕ) → blame Own (judge b (line_from b (own es b) n) ts) ≡ refuses (Below c) → below (Operator n) ts ≡ refuses c
       over n q =
           let d = blame_refuses Own (judge b (line_from b (own es b) n) ts) (Below c) q in
-          absurd (let i = d.2 in let z : ◌≡◌ {A = Bool} false true = cc in false≢true z)
+          absurd (let i = d.2 in cc)
 
       split : (n : ℕ) (v : Bool) → cond v (blame Below (below (Operator n) ts)) (blame Own (judge b (line_from b (own es b) n) ts)) ≡ refuses (Below c) →
           below (Operator n) ts ≡ refuses c
@@ -144,7 +144,7 @@ module _ {K : Type 0} (es : List Entry) (b : ℕ) (below : Operation → List Ty
   own_first o ts n e = by o e
     where
       under : {P : Type 0} (o : Operation) → blame Below (below o ts) ≡ refuses (Own n) → P
-      under o q = let d = from_below o ts (Own n) q in absurd (let i = d.2 in let z : ◌≡◌ {A = Bool} false true = cc in false≢true z)
+      under o q = let d = from_below o ts (Own n) q in absurd (let i = d.2 in cc)
 
       split : (m : ℕ) (v : Bool) → ltb m b ≡ v → layer_rule es b below (Operator m) ts ≡ refuses (Own n) → FirstWrong (layer_rule es b below (Operator m)) ts n
       split m true w q = under (Operator m) (sym (below_rule m w ts) ∙ q)
@@ -180,7 +180,7 @@ module _ {K : Type 0} (es : List Entry) (b : ℕ) (below : Operation → List Ty
       split m true k w q = first_above (below (Operator m)) (layer_rule es b below (Operator m)) (below_rule m w) ts (position k) (law (Operator m) ts k (below_kept (Operator m) ts k q))
       split m false k w q =
           let d = blame_refuses Own (judge b (line_from b (own es b) m) ts) (Below k) (sym (own_rule m w ts) ∙ q) in
-          absurd (let i = d.2 in let z : ◌≡◌ {A = Bool} false true = cc in false≢true z)
+          absurd (let i = d.2 in cc)
 
       by : (o : Operation) (k : K) → layer_rule es b below o ts ≡ refuses (Below k) → FirstWrong (layer_rule es b below o) ts (position k)
       by Literal k q = first_above (below Literal) (layer_rule es b below Literal) (λ ts. refl) ts (position k) (law Literal ts k (below_kept Literal ts k q))
@@ -199,7 +199,7 @@ wrong_breaks = (
 )
   where
     impossible : {c : Position} {t : Ty} → ◌≡◌ {A = Outcome Position} (refuses c) (gives t) → ⊥
-    impossible e = let z : ◌≡◌ {A = Bool} false true = cc in false≢true z
+    impossible e = cc
 
 -- words that differ, by a test that computes
 abbrev absent_test : Name → List Word → Bool
@@ -214,7 +214,7 @@ absent_from : (x : Name) (ws : List Word) → absent_test x ws ≡ true → Abse
 absent_from x [] e = tt
 absent_from x (w ∷ ws) e =
     let h = both (not (bytes_eq w.name x)) (absent_test x ws) e in
-    ((λ q. let i = (bytes_eq-Decides w.name x).1 q in let z : ◌≡◌ {A = Bool} false true = (let j = h.0 in cc) in false≢true z), absent_from x ws h.1)
+    ((λ q. let i = (bytes_eq-Decides w.name x).1 q in let j = h.0 in cc), absent_from x ws h.1)
 
 distinct_from : (ws : List Word) → distinct_test ws ≡ true → Distinct ws
 distinct_from [] e = tt
@@ -269,7 +269,7 @@ none_absent k (w ∷ ws) x e = go (bytes_eq x w.name) refl e (none_absent (suc k
   where
     go : (c : Bool) → bytes_eq x w.name ≡ c → cond c (Some (record { number = k; kind = w.kind })) (lookup_from (suc k) ws x) ≡ None →
         (lookup_from (suc k) ws x ≡ None → Absent x ws) → (w.name ≡ x → ⊥) × Absent x ws
-    go true t q again = absurd (let z : ◌≡◌ {A = Bool} false true = cc in false≢true z)
+    go true t q again = absurd (cc)
     go false t q again = ((λ f. false≢true (sym t ∙ (bytes_eq-Decides x w.name).1 (sym f))), again q)
 
 absent_none : (k : ℕ) (ws : List Word) (x : Name) → Absent x ws → lookup_from k ws x ≡ None

@@ -1,6 +1,5 @@
 -- Tables: a word is found, and a label or a line read, at its place.
 use Rattle.std.proofs.Common.{◌≡◌, ℕ, zero, suc, ◌+◌, ◌-◌, ◌<◌, ◌≤◌, Bool, true, false, cond, nat_eq, List, [], ◌∷◌, map, length, get_or, Some, None, Option, sym, refl, ap, ◌∙◌, arith}
-use Rattle.std.proofs.lemmas.Bool.{false≢true}
 use Rattle.std.proofs.lemmas.Bool.Decides.{nat_tests}
 use Rattle.std.proofs.lemmas.Option.{slice_get-map, slice_get_past, slice_get_read}
 use Rattle.std.specs.Borrow.{Bor}
@@ -28,12 +27,12 @@ lookup_none x k (e ∷ es) p = go (has_name x e) p (lookup_none x (suc k) es)
     go : (c : Bool) → cond c (Some k) (position_from (has_name x) (k + 1) es) ≡ None →
         (position_from (has_name x) (suc k) es ≡ None → lookup_from (suc k) (map tabled es) x ≡ None) →
         cond c (Some (record { number = k; kind = e.kind })) (lookup_from (suc k) (map tabled es) x) ≡ None
-    go true q again = absurd (let z : ◌≡◌ {A = Bool} false true = cc in false≢true z)
+    go true q again = absurd (cc)
     go false q again = again (let i : suc k ≡ k + 1 = omega arith in ap (λ n. position_from (has_name x) n es) i ∙ q)
 
 lookup_some : (x : Name) (k i : ℕ) (es : List Entry) (d : Entry) → position_from (has_name x) k es ≡ Some i →
     (k ≤ i) × (lookup_from k (map tabled es) x ≡ Some (record { number = i; kind = (get_or es (i - k) d).kind }))
-lookup_some x k i [] d p = absurd (let z : ◌≡◌ {A = Bool} false true = cc in false≢true z)
+lookup_some x k i [] d p = absurd (cc)
 lookup_some x k i (e ∷ es) d p = go (has_name x e) p (lookup_some x (suc k) i es d)
   where
     go : (c : Bool) → cond c (Some k) (position_from (has_name x) (k + 1) es) ≡ Some i →

@@ -32,6 +32,13 @@ question_number Size = Some 16
 question_number Arguments = None
 question_number Short = None
 
+-- the same refusal, its cause told in another way
+abbrev pub with_cause : {K L : Type 0} → (K → L) → Refusal K → Refusal L
+with_cause f (Cause c) = Cause (f c)
+with_cause f Size = Size
+with_cause f Arguments = Arguments
+with_cause f Short = Short
+
 -- what is asked of a cause, if the refusal has one
 abbrev pub ForCause : {K : Type 0} → Refusal K → (K → Type 0) → Type 0
 ForCause {K} r P = (c : K) → r ≡ Cause c → P c

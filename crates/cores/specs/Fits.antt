@@ -1,7 +1,6 @@
 -- Arguments fit a line exactly where types for τ and ρ make its patterns the arguments.
 use Rattle.std.specs.Prelude.{◌≡◌, ℕ, suc, ◌+◌, Bool, true, false, cond, List, [], ◌∷◌, map, Some, None, Ok, Err, Option, Result, ◌==◌, refl}
 use Rattle.std.proofs.Common.{sym, ap, subst, ◌∙◌}
-use Rattle.std.proofs.lemmas.Bool.{false≢true}
 use Rattle.std.specs.Option.{option_map}
 use Rattle.types.specs.Types.{Ty, leaf, label0, label1, label2, same}
 use Rattle.cores.specs.Lines.{Pattern, τ, ρ, plain, one, two, fill, Known, settle, after, onward, fit, meets, value}
@@ -32,14 +31,14 @@ settle_sound (Some w) t u e = go (same w t) refl e
   where
     go : (c : Bool) → same w t ≡ c → cond c (Some w) None ≡ Some u → (t ≡ u) × ((x : Ty) → u ≡ x → w ≡ x)
     go true s q = (let h = same_equal w t s in cc, λ x r. let h = same_equal w t s in cc)
-    go false s q = absurd (let z : ◌≡◌ {A = Bool} false true = cc in false≢true z)
+    go false s q = absurd (cc)
 
 pub cond_some : {A : Type 0} (c : Bool) (o : Option A) (x : A) → cond c o None ≡ Some x → (c ≡ true) × (o ≡ Some x)
 cond_some true o x e = (refl, e)
-cond_some false o x e = absurd (let z : ◌≡◌ {A = Bool} false true = cc in false≢true z)
+cond_some false o x e = absurd (cc)
 
 pub after_some : {A B : Type 0} (o : Option A) (f : A → Option B) (y : B) → after o f ≡ Some y → (x : A) × (o ≡ Some x) × (f x ≡ Some y)
-after_some None f y e = absurd (let z : ◌≡◌ {A = Bool} false true = cc in false≢true z)
+after_some None f y e = absurd (cc)
 after_some (Some x) f y e = (x, refl, e)
 
 pub fit_fill : (b : ℕ) (p : Pattern) (t r : Ty) (k : Known) → Agrees k t r →
@@ -63,7 +62,7 @@ fit_fill b (two l p q) t r k a =
     )
 
 none_some : {A P : Type 0} (x : A) → ◌≡◌ {A = Option A} None (Some x) → P
-none_some x e = absurd (let z : ◌≡◌ {A = Bool} false true = cc in false≢true z)
+none_some x e = absurd (cc)
 
 pub fit_sound : (b : ℕ) (p : Pattern) (u : Ty) (k k' : Known) → fit b p u k ≡ Some k' → (t r : Ty) → Agrees k' t r →
     Agrees k t r × (fill b t r p ≡ u)
@@ -115,11 +114,11 @@ meets_fill b n (p ∷ ps) t r k a =
     (g.0, ap (λ (o : Option Known). onward n o (λ k'. meets b (suc n) ps (map (fill b t r) ps) k')) h.1 ∙ g.1, g.2)
 
 pub onward_ok : {A B : Type 0} (n : ℕ) (o : Option A) (f : A → Result B ℕ) (y : B) → onward n o f ≡ Ok y → (x : A) × (o ≡ Some x) × (f x ≡ Ok y)
-onward_ok n None f y e = absurd (let z : ◌≡◌ {A = Bool} false true = cc in false≢true z)
+onward_ok n None f y e = absurd (cc)
 onward_ok n (Some x) f y e = (x, refl, e)
 
 pub err_ok : {A B P : Type 0} (x : A) (y : B) → ◌≡◌ {A = Result A B} (Err y) (Ok x) → P
-err_ok x y e = absurd (let z : ◌≡◌ {A = Bool} false true = cc in false≢true z)
+err_ok x y e = absurd (cc)
 
 pub meets_sound : (b n : ℕ) (ps : List Pattern) (ts : List Ty) (k k' : Known) → meets b n ps ts k ≡ Ok k' → (t r : Ty) → Agrees k' t r →
     Agrees k t r × (map (fill b t r) ps ≡ ts)

@@ -1,7 +1,6 @@
 -- Comparing words with the items of a line comes to the same as comparing types with the line.
 use Rattle.std.specs.Prelude.{◌≡◌, ℕ, suc, ◌+◌, ◌<◌, Bool, true, false, cond, List, [], ◌∷◌, ◌++◌, take, drop, Some, None, Ok, Err, Option, Result, ◌==◌, ◌≢◌, refl}
 use Rattle.std.proofs.Common.{sym, ap, subst, ◌∙◌, arith}
-use Rattle.std.proofs.lemmas.Bool.{false≢true}
 use Rattle.std.proofs.lemmas.Bool.Decides.{nat_tests, same_from_decides}
 use Rattle.std.proofs.lemmas.Slice.Eq.{bytes_eq-Decides}
 use Rattle.std.specs.Option.{option_map}
@@ -94,22 +93,22 @@ fit_spelled b ρ t k k' s ks e =
     let m = mapped_some (λ (x : Ty). let y : Known = record { tau = k.tau; rho = Some x } in y) (settle k.rho t) k' e in
     let g = subst SpelledOption m.1 (settle_spelled k.rho t ks.1 s) in
     subst KnownSpelled m.2 (ks.0, g)
-fit_spelled b (plain l) (leaf x) k k' s ks e = absurd (let z : ◌≡◌ {A = Bool} false true = cc in false≢true z)
+fit_spelled b (plain l) (leaf x) k k' s ks e = absurd (cc)
 fit_spelled b (plain l) (label0 m) k k' s ks e =
     let c = cond_some (m == b + l) (Some k) k' e in
     let w : k ≡ k' = let h = c.1 in cc in
     subst KnownSpelled w ks
-fit_spelled b (plain l) (label1 m t) k k' s ks e = absurd (let z : ◌≡◌ {A = Bool} false true = cc in false≢true z)
-fit_spelled b (plain l) (label2 m t u) k k' s ks e = absurd (let z : ◌≡◌ {A = Bool} false true = cc in false≢true z)
-fit_spelled b (one l p) (leaf x) k k' s ks e = absurd (let z : ◌≡◌ {A = Bool} false true = cc in false≢true z)
-fit_spelled b (one l p) (label0 m) k k' s ks e = absurd (let z : ◌≡◌ {A = Bool} false true = cc in false≢true z)
+fit_spelled b (plain l) (label1 m t) k k' s ks e = absurd (cc)
+fit_spelled b (plain l) (label2 m t u) k k' s ks e = absurd (cc)
+fit_spelled b (one l p) (leaf x) k k' s ks e = absurd (cc)
+fit_spelled b (one l p) (label0 m) k k' s ks e = absurd (cc)
 fit_spelled b (one l p) (label1 m t) k k' s ks e =
     let c = cond_some (m == b + l) (fit b p t k) k' e in
     fit_spelled b p t k k' s.1 ks c.1
-fit_spelled b (one l p) (label2 m t u) k k' s ks e = absurd (let z : ◌≡◌ {A = Bool} false true = cc in false≢true z)
-fit_spelled b (two l p q) (leaf x) k k' s ks e = absurd (let z : ◌≡◌ {A = Bool} false true = cc in false≢true z)
-fit_spelled b (two l p q) (label0 m) k k' s ks e = absurd (let z : ◌≡◌ {A = Bool} false true = cc in false≢true z)
-fit_spelled b (two l p q) (label1 m t) k k' s ks e = absurd (let z : ◌≡◌ {A = Bool} false true = cc in false≢true z)
+fit_spelled b (one l p) (label2 m t u) k k' s ks e = absurd (cc)
+fit_spelled b (two l p q) (leaf x) k k' s ks e = absurd (cc)
+fit_spelled b (two l p q) (label0 m) k k' s ks e = absurd (cc)
+fit_spelled b (two l p q) (label1 m t) k k' s ks e = absurd (cc)
 fit_spelled b (two l p q) (label2 m t u) k k' s ks e =
     let c = cond_some (m == b + l) (after (fit b p t k) (λ k'. fit b q u k')) k' e in
     let d = after_some (fit b p t k) (λ k'. fit b q u k') k' c.1 in

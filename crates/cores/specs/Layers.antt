@@ -2,12 +2,12 @@
 use Rattle.std.specs.Prelude.{ℕ, ◌+◌, cond, List, [], ◌++◌, map, length, Some, codes, decimal, Option, nat_le, nat_lt}
 use Rattle.std.specs.Option.{option_map}
 use Rattle.types.specs.Types.{Ty}
+use Rattle.cores.specs.Answers.{with_cause}
 use Rattle.cores.specs.Meaning.{Word, Outcome}
 use Rattle.cores.specs.Lines.{Entry, word, line_from, judge, blame}
 use Rattle.cores.specs.declared.interface.Operation.{Operation}
 use Rattle.cores.specs.declared.interface.Operation.TheVariants.{Literal, Function, Operator}
 use Rattle.cores.specs.declared.interface.Refusal.{Refusal}
-use Rattle.cores.specs.declared.interface.Refusal.TheVariants.{Cause, Size, Arguments, Short}
 use Rattle.cores.specs.declared.lines.Position.{Position}
 use Rattle.cores.specs.declared.layers.LayerCause.{LayerCause}
 use Rattle.cores.specs.declared.layers.LayerCause.TheVariants.{Own, Below}
@@ -19,17 +19,11 @@ cause_shown shown (Below c) = option_map (λ s. codes "below:" ++ s) (shown c)
 
 -- a refusal from below, its cause kept whole
 abbrev pub above : {K : Type 0} → Refusal K → Refusal (LayerCause K)
-above (Cause c) = Cause (Below c)
-above Size = Size
-above Arguments = Arguments
-above Short = Short
+above r = with_cause Below r
 
 -- a refusal of an operator of the layer's own
 abbrev pub own_cause : {K : Type 0} → Refusal Position → Refusal (LayerCause K)
-own_cause (Cause p) = Cause (Own p.number)
-own_cause Size = Size
-own_cause Arguments = Arguments
-own_cause Short = Short
+own_cause r = with_cause (λ (p : Position). Own p.number) r
 
 -- what a layer adds over a core with n words: its entries, unless label numbers would pass 30 bits
 abbrev pub own : List Entry → ℕ → List Entry

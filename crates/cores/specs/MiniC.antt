@@ -1,12 +1,12 @@
 -- Mini-C: its words, and a line for each operator, the literal and the function.
 use Rattle.std.specs.Prelude.{ℕ, suc, Bool, false, cond, List, [], ◌∷◌, map, Some, None, codes, Option, ◌==◌}
 use Rattle.types.specs.Types.{Ty}
+use Rattle.cores.specs.Answers.{with_cause}
 use Rattle.cores.specs.Meaning.{Word, Outcome}
 use Rattle.cores.specs.Lines.{Pattern, τ, ρ, plain, one, two, Line, ◌⟶◌, Entry, label, operator, word, line_from, judge, blame}
 use Rattle.cores.specs.declared.interface.Operation.{Operation}
 use Rattle.cores.specs.declared.interface.Operation.TheVariants.{Literal, Function, Operator}
 use Rattle.cores.specs.declared.interface.Refusal.{Refusal}
-use Rattle.cores.specs.declared.interface.Refusal.TheVariants.{Cause, Size, Arguments, Short}
 use Rattle.cores.specs.declared.lines.Position.{Position}
 use Rattle.cores.specs.declared.mini_c.CCause.{CCause}
 
@@ -66,7 +66,4 @@ c_rule o ts = blame (λ n. record { position = n; pointer = pointer_at (c_line o
 
 -- a refusal with the pointer mark
 abbrev pub c_refusal : Operation → Refusal Position → Refusal CCause
-c_refusal o (Cause p) = Cause (record { position = p.number; pointer = pointer_at (c_line o) p.number })
-c_refusal o Size = Size
-c_refusal o Arguments = Arguments
-c_refusal o Short = Short
+c_refusal o r = with_cause (λ (p : Position). record { position = p.number; pointer = pointer_at (c_line o) p.number }) r

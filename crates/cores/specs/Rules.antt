@@ -1,7 +1,6 @@
 -- Rules by lines: they give what is written, keep the law, and refuse at the first wrong argument.
 use Rattle.std.specs.Prelude.{◌≡◌, ℕ, suc, ◌+◌, ◌≤◌, Bool, true, false, cond, ltb, List, [], ◌∷◌, ◌++◌, map, take, Some, None, Ok, Err, Option, Result, ◌==◌, nat_lt, refl}
 use Rattle.std.proofs.Common.{sym, ap, ◌∙◌, inl, inr, arith}
-use Rattle.std.proofs.lemmas.Bool.{false≢true}
 use Rattle.std.proofs.lemmas.Bool.Decides.{Decides-ltb, nat_tests}
 use Rattle.types.specs.Types.{Leaf, Ty, leaf, label0, label1, label2, replace, replace_opaque}
 use Rattle.cores.specs.Meaning.{Outcome, gives, refuses}
@@ -20,7 +19,7 @@ line_from_on P k (operator x l ∷ es) n h = go (n == k) (line_from_on P (suc k)
     go false i = i
 
 refuses_gives : {K P : Type 0} (c : K) (t : Ty) → ◌≡◌ {A = Outcome K} (refuses c) (gives t) → P
-refuses_gives c t e = absurd (let z : ◌≡◌ {A = Bool} false true = cc in false≢true z)
+refuses_gives c t e = absurd (cc)
 
 pub judge_sound : (b : ℕ) (o : Option Line) (ts : List Ty) (u : Ty) → judge b o ts ≡ gives u → Accepts b o ts u
 judge_sound b None ts u e = refuses_gives 1 u e

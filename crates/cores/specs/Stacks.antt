@@ -86,7 +86,7 @@ lookup_raised b j (w ∷ ws) x =
     go false = refl
 
 lookup_bound : (j : ℕ) (ws : List Word) (x : Name) (f : Found) → lookup_from j ws x ≡ Some f → f.number < j + length ws
-lookup_bound j [] x f e = absurd (let z : ◌≡◌ {A = Bool} false true = cc in false≢true z)
+lookup_bound j [] x f e = absurd (cc)
 lookup_bound j (w ∷ ws) x f e = go (bytes_eq x w.name) e (lookup_bound (suc j) ws x f)
   where
     go : (c : Bool) → cond c (Some (record { number = j; kind = w.kind })) (lookup_from (suc j) ws x) ≡ Some f →
@@ -176,9 +176,6 @@ line_own es b n h r =
     let e : b + 0 ≡ b = omega arith in
     let f : b + (n - b) ≡ n = omega arith in
     sym (line_raised b 0 es (n - b)) ∙ ap (λ (k : ℕ). line_from k es (b + (n - b))) e ∙ ap (line_from b es) f ∙ ap (λ (fs : List Entry). line_from b fs n) (sym (own_room es b r))
-
-pub line_none : (es : List Entry) (b n : ℕ) → nat_le (b + length es) 1073741824 ≡ false → None ≡ line_from b (own es b) n
-line_none es b n r = sym (ap (λ (fs : List Entry). line_from b fs n) (own_none es b r))
 
 within_mono : (m n b : ℕ) (p : Pattern) → m ≤ n → Within m b p → Within n b p
 within_mono m n b τ h w = tt

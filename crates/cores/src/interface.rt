@@ -54,6 +54,7 @@ impl<K> Refusal<K> {
     }
 
     // The number of the question to which a refusal says no, if it belongs to one. Constant time.
+    // A method and no `From`: `Option<u8>` would not say which number it is.
     pub fn question_number(&self) -> Option<u8>
         ensures { result ≡ question_number self.now }
     {

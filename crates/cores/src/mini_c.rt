@@ -12,6 +12,7 @@ use crate::lines::Item::{Arg, End, Label, Rho, Tau};
 use crate::lines::{Line, Position, answer_line};
 use crate::table::{Entry, Language, find_word, label_word};
 use std::fmt;
+use types::words::{LABEL0, LABEL1, LABEL2};
 
 #[derive(Clone, Copy, PartialEq, Eq, Debug, Default)]
 pub struct MiniC;
@@ -34,18 +35,21 @@ impl fmt::Display for CCause {
     }
 }
 
-const INT: u32 = 0x4000_0000;
+// The words of the own labels, by their numbers.
+const INT: u32 = LABEL0;
 
-const VOID: u32 = 0x4000_0001;
+const VOID: u32 = LABEL0 + 1;
 
-const PTR: u32 = 0x8000_0002;
+const PTR: u32 = LABEL1 + 2;
 
-const FUNC: u32 = 0xC000_0003;
+const FUNC: u32 = LABEL2 + 3;
 
+// The numbers of the operators whose lines write `ptr`.
 const DEREF: u32 = 6;
 
 const STORE: u32 = 7;
 
+// The lines and the words; a word's number is its place.
 const LANGUAGE: Language<'static> = Language {
     literal: Line {
         arguments: &[End(1)],

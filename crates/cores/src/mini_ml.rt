@@ -7,16 +7,19 @@ use crate::interface::{Core, Found, Kind, Operation, Refusal};
 use crate::lines::Item::{Arg, End, Label, Rho, Tau};
 use crate::lines::{Line, Position, answer_line};
 use crate::table::{Entry, Language, find_word, label_word};
+use types::words::{LABEL0, LABEL2};
 
 #[derive(Clone, Copy, PartialEq, Eq, Debug, Default)]
 pub struct MiniMl;
 
-const INT: u32 = 0x4000_0000;
+// The words of the own labels, by their numbers.
+const INT: u32 = LABEL0;
 
-const BOOL: u32 = 0x4000_0001;
+const BOOL: u32 = LABEL0 + 1;
 
-const ARROW: u32 = 0xC000_0002;
+const ARROW: u32 = LABEL2 + 2;
 
+// The lines and the words; a word's number is its place.
 const LANGUAGE: Language<'static> = Language {
     literal: Line {
         arguments: &[End(1)],

@@ -8,6 +8,7 @@ use crate::layers::{Layer, Layered};
 use crate::lines::Item::{Arg, End, Label, Rho, Tau};
 use crate::lines::Line;
 use crate::table::{Entry, find_word, label_word, operator_line};
+use types::words::LABEL2;
 
 #[derive(Clone, Copy, PartialEq, Eq, Debug, Default)]
 pub struct Pairs;
@@ -15,8 +16,10 @@ pub struct Pairs;
 // Pairs over a core.
 pub type WithPairs<C> = Layered<Pairs, C>;
 
-const PAIR: u32 = 0xC000_0000;
+// The words of the own labels, by their numbers.
+const PAIR: u32 = LABEL2;
 
+// The own words; a word's number is its place.
 const WORDS: [Entry<'static>; 4] = [
     Entry {
         name: b"pair",

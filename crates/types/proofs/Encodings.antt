@@ -1,6 +1,5 @@
 -- Encoding and decoding undo one another; what the words of a type say of it.
-use Rattle.std.proofs.Common.{◌≡◌, ℕ, zero, suc, ◌+◌, ◌<◌, ◌≤◌, Bool, true, false, List, [], ◌∷◌, length, get_or, drop, Some, None, Decides, Option, sym, refl, ap, ◌∙◌, subst, arith}
-use mathlib.Core.Bool.{false≢true}
+use Rattle.std.proofs.Common.{◌≡◌, ℕ, zero, suc, ◌+◌, ◌<◌, ◌≤◌, Bool, List, [], ◌∷◌, length, get_or, drop, Some, None, Decides, Option, sym, refl, ap, ◌∙◌, subst, arith}
 use Rattle.std.proofs.lemmas.Slice.Eq.{bytes_eq-Decides}
 use Rattle.std.specs.Str.{bytes_eq}
 use Rattle.types.specs.Types.{numbered, Ty, leaf, label0, label1, label2, size}
@@ -53,7 +52,7 @@ fronts_more w ws k m (Label2 x) e h f = go f.ts f.spelled f.many f.long f.whole_
 
 fronts : (ws : List ℕ) → ((i : ℕ) → get_or ws i 0 < 4294967296) → (k n : ℕ) → span ws k ≡ Some n → Fronts ws k n
 fronts [] fits zero n e = fronts_none [] n e
-fronts [] fits (suc k) n e = absurd (let z : ◌≡◌ {A = Bool} false true = cc in false≢true z)
+fronts [] fits (suc k) n e = absurd (cc)
 fronts (w ∷ ws) fits zero n e = fronts_none (w ∷ ws) n e
 fronts (w ∷ ws) fits (suc k) n e =
     let m = mapped_some (λ (x : ℕ). suc x) (span ws (wanting (node w) k)) n e in
@@ -65,8 +64,7 @@ first_type ws fits None e =
     λ t rest s q.
     let h = span_one t s rest in
     let i = ap (λ (xs : List ℕ). span xs 1) q in
-    let z : ◌≡◌ {A = Bool} false true = cc in
-    false≢true z
+    cc
 first_type ws fits (Some n) e = only (fronts ws fits 1 n (sym e))
   where
     pick : (ts : List Ty) → AllSpelled ts → length ts ≡ 1 → n ≡ sizes ts → spell_all ts (drop n ws) ≡ ws → FirstType ws (Some n)

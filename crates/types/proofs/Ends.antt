@@ -1,6 +1,5 @@
 -- The loops that find the end of a type and test for whole types.
-use Rattle.std.proofs.Common.{◌≡◌, ℕ, suc, ◌+◌, ◌-◌, ◌<◌, ◌≤◌, Bool, true, false, cond, leb, List, [], ◌∷◌, ◌++◌, length, get_or, take, drop, Some, None, Option, sym, refl, ap, ◌∙◌, subst, arith, length-drop, take-append-drop, reverse}
-use mathlib.Core.Bool.{false≢true}
+use Rattle.std.proofs.Common.{◌≡◌, ℕ, suc, ◌+◌, ◌-◌, ◌<◌, ◌≤◌, Bool, true, false, List, [], ◌∷◌, ◌++◌, length, get_or, take, drop, Some, None, sym, refl, ap, ◌∙◌, subst, arith, length-drop, take-append-drop, reverse}
 use Rattle.std.proofs.lemmas.Bool.Decides.{nat_tests}
 use Rattle.std.proofs.lemmas.List.{drop_more, length-take-le, length-reverse, get_or-reverse, get_or_default}
 use Rattle.std.specs.Option.{option_map}
@@ -8,15 +7,11 @@ use Rattle.types.specs.Types.{Ty}
 use Rattle.types.specs.Words.{node, node_word, grown, types, encode_all, whole, parts, types_with, span}
 use Rattle.types.specs.declared.words.Node.{Node}
 use Rattle.types.specs.declared.words.Node.TheVariants.{Leaf as LeafNode, Label0, Label1, Label2}
-use Rattle.types.proofs.Spelling.{node_word_node, whole_is, is_whole}
+use Rattle.types.proofs.Spelling.{node_word_node, whole_is, is_whole, span_zero}
 
 -- what is left gives the answer: i words are passed, and so many types are still wanted
 abbrev pub Ending : List ℕ → ℕ → ℕ → Type 0
 Ending ws i wanted = option_map (λ n. i + n) (span (drop i ws) wanted) ≡ span ws 1
-
-span_zero : (ws : List ℕ) → span ws 0 ≡ Some 0
-span_zero [] = refl
-span_zero (w ∷ ws) = refl
 
 pub ending_none : (ws : List ℕ) (i wanted : ℕ) → Ending ws i wanted → wanted ≡ 0 → Some i ≡ span ws 1
 ending_none ws i wanted e z =
@@ -59,36 +54,17 @@ grown_length (Label2 n) [] = omega arith
 grown_length (Label2 n) (t ∷ []) = omega arith
 grown_length (Label2 n) (t ∷ u ∷ ts) = omega arith
 
-some_none : {A P : Type 0} (x : A) → ◌≡◌ {A = Option A} (Some x) None → P
-some_none x e = absurd (let z : ◌≡◌ {A = Bool} false true = cc in false≢true z)
-
 with_some : (d : Node) (k n : ℕ) → types_with d k ≡ Some n → (parts d ≤ k) × (n + parts d ≡ k + 1)
-with_some (LeafNode l) k n e = let f : k + 1 ≡ n = cc in (omega arith, omega arith)
-with_some (Label0 l) k n e = let f : k + 1 ≡ n = cc in (omega arith, omega arith)
-with_some (Label1 l) k n e = go (leb 1 k) refl e
-  where
-    go : (b : Bool) → leb 1 k ≡ b → cond b (Some k) None ≡ Some n → (1 ≤ k) × (n + 1 ≡ k + 1)
-    go true t q = let f : k ≡ n = cc in let h : 1 ≤ k = grind (arith, nat_tests) in (h, omega arith)
-    go false t q = some_none n (sym q)
-with_some (Label2 l) k n e = go (leb 2 k) refl e
-  where
-    go : (b : Bool) → leb 2 k ≡ b → cond b (Some (k - 1)) None ≡ Some n → (2 ≤ k) × (n + 2 ≡ k + 1)
-    go true t q = let f : k - 1 ≡ n = cc in let h : 2 ≤ k = grind (arith, nat_tests) in (h, omega arith)
-    go false t q = some_none n (sym q)
+with_some (LeafNode l) k n e = grind (arith, nat_tests)
+with_some (Label0 l) k n e = grind (arith, nat_tests)
+with_some (Label1 l) k n e = grind (arith, nat_tests)
+with_some (Label2 l) k n e = grind (arith, nat_tests)
 
 with_none : (d : Node) (k : ℕ) → types_with d k ≡ None → k < parts d
-with_none (LeafNode l) k e = some_none (k + 1) e
-with_none (Label0 l) k e = some_none (k + 1) e
-with_none (Label1 l) k e = go (leb 1 k) refl e
-  where
-    go : (b : Bool) → leb 1 k ≡ b → cond b (Some k) None ≡ None → k < 1
-    go true t q = some_none k q
-    go false t q = grind (arith, nat_tests)
-with_none (Label2 l) k e = go (leb 2 k) refl e
-  where
-    go : (b : Bool) → leb 2 k ≡ b → cond b (Some (k - 1)) None ≡ None → k < 2
-    go true t q = some_none (k - 1) q
-    go false t q = grind (arith, nat_tests)
+with_none (LeafNode l) k e = grind (arith, nat_tests)
+with_none (Label0 l) k e = grind (arith, nat_tests)
+with_none (Label1 l) k e = grind (arith, nat_tests)
+with_none (Label2 l) k e = grind (arith, nat_tests)
 
 -- the words from i on are whole types, so many of them
 abbrev pub WholeFrom : List ℕ → ℕ → ℕ → Type 0

@@ -9,7 +9,7 @@ use Rattle.types.specs.Types.{Head, unit, binder, ModulePath, at, dot, Leaf, nam
 
 -- what a changed answer came from
 pub mapped_some : {A B : Type 0} (f : A → B) (o : Option A) (y : B) → option_map f o ≡ Some y → (x : A) × (o ≡ Some x) × (f x ≡ y)
-mapped_some f None y e = absurd (let z : ◌≡◌ {A = Bool} false true = cc in false≢true z)
+mapped_some f None y e = absurd (cc)
 mapped_some f (Some x) y e = (x, refl, (cc))
 
 pub both : (x y : Bool) → (x && y) ≡ true → (x ≡ true) × (y ≡ true)

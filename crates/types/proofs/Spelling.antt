@@ -1,5 +1,5 @@
 -- Words and the types that they spell: encoding and decoding undo one another, and where a type ends.
-use Rattle.std.proofs.Common.{◌≡◌, ℕ, suc, ◌+◌, ◌-◌, ◌%◌, ◌<◌, ◌≤◌, Bool, true, false, cond, ltb, List, [], ◌∷◌, ◌++◌, length, take, drop, Some, None, Option, refl, ap, ◌∙◌, arith}
+use Rattle.std.proofs.Common.{◌≡◌, ℕ, suc, ◌+◌, ◌<◌, true, List, [], ◌∷◌, ◌++◌, length, take, drop, Some, None, Option, refl, ap, ◌∙◌, arith}
 use Rattle.std.proofs.lemmas.Bool.Decides.{nat_tests}
 use Rattle.std.proofs.lemmas.Slice.Eq.{bytes_eq-Decides}
 use Rattle.std.proofs.lemmas.List.{take_at, drop_at}
@@ -10,66 +10,22 @@ use Rattle.types.specs.declared.words.Node.{Node}
 use Rattle.types.specs.declared.words.Node.TheVariants.{Leaf as LeafNode, Label0, Label1, Label2}
 
 pub node_leaf : (n : ℕ) → n < 1073741824 → node n ≡ LeafNode n
-node_leaf n h = let e : ltb n 1073741824 ≡ true = grind (arith, nat_tests) in cc
+node_leaf n h = grind (arith, nat_tests)
 
 pub node_label0 : (l : ℕ) → l < 1073741824 → node (1073741824 + l) ≡ Label0 l
-node_label0 l h =
-    let d : ltb (1073741824 + l) 1073741824 ≡ false = grind (arith, nat_tests) in
-    let e : ltb (1073741824 + l) 2147483648 ≡ true = grind (arith, nat_tests) in
-    let f : (1073741824 + l) - 1073741824 ≡ l = omega arith in
-    cc
+node_label0 l h = grind (arith, nat_tests)
 
 pub node_label1 : (l : ℕ) → l < 1073741824 → node (2147483648 + l) ≡ Label1 l
-node_label1 l h =
-    let d : ltb (2147483648 + l) 1073741824 ≡ false = grind (arith, nat_tests) in
-    let e : ltb (2147483648 + l) 2147483648 ≡ false = grind (arith, nat_tests) in
-    let g : ltb (2147483648 + l) 3221225472 ≡ true = grind (arith, nat_tests) in
-    let f : (2147483648 + l) - 2147483648 ≡ l = omega arith in
-    cc
+node_label1 l h = grind (arith, nat_tests)
 
 pub node_label2 : (l : ℕ) → l < 1073741824 → node (3221225472 + l) ≡ Label2 l
-node_label2 l h =
-    let d : ltb (3221225472 + l) 1073741824 ≡ false = grind (arith, nat_tests) in
-    let e : ltb (3221225472 + l) 2147483648 ≡ false = grind (arith, nat_tests) in
-    let g : ltb (3221225472 + l) 3221225472 ≡ false = grind (arith, nat_tests) in
-    let f : ((3221225472 + l) - 3221225472) % 1073741824 ≡ l = omega arith in
-    cc
+node_label2 l h = grind (arith, nat_tests)
 
 pub node_word_node : (w : ℕ) → w < 4294967296 → node_word (node w) ≡ w
-node_word_node w h = by_leaf (ltb w 1073741824) refl
-  where
-    by_label1 : (c : Bool) → ltb w 3221225472 ≡ c → ltb w 2147483648 ≡ false →
-        node_word (cond c (Label1 (w - 2147483648)) (Label2 ((w - 3221225472) % 1073741824))) ≡ w
-    by_label1 true e f = let g : 2147483648 ≤ w = grind (arith, nat_tests) in omega arith
-    by_label1 false e f = let g : 3221225472 ≤ w = grind (arith, nat_tests) in omega arith
-
-    by_label0 : (c : Bool) → ltb w 2147483648 ≡ c → ltb w 1073741824 ≡ false →
-        node_word (cond c (Label0 (w - 1073741824)) (cond (ltb w 3221225472) (Label1 (w - 2147483648)) (Label2 ((w - 3221225472) % 1073741824)))) ≡ w
-    by_label0 true e f = let g : 1073741824 ≤ w = grind (arith, nat_tests) in omega arith
-    by_label0 false e f = by_label1 (ltb w 3221225472) refl e
-
-    by_leaf : (c : Bool) → ltb w 1073741824 ≡ c →
-        node_word (cond c (LeafNode w) (cond (ltb w 2147483648) (Label0 (w - 1073741824)) (cond (ltb w 3221225472) (Label1 (w - 2147483648)) (Label2 ((w - 3221225472) % 1073741824))))) ≡ w
-    by_leaf true e = refl
-    by_leaf false e = by_label0 (ltb w 2147483648) refl e
+node_word_node w h = grind (arith, nat_tests)
 
 pub node_number_node : (w : ℕ) → node_number (node w) < 1073741824
-node_number_node w = by_leaf (ltb w 1073741824) refl
-  where
-    by_label1 : (c : Bool) → ltb w 3221225472 ≡ c →
-        node_number (cond c (Label1 (w - 2147483648)) (Label2 ((w - 3221225472) % 1073741824))) < 1073741824
-    by_label1 true e = let g : w < 3221225472 = grind (arith, nat_tests) in omega arith
-    by_label1 false e = omega arith
-
-    by_label0 : (c : Bool) → ltb w 2147483648 ≡ c →
-        node_number (cond c (Label0 (w - 1073741824)) (cond (ltb w 3221225472) (Label1 (w - 2147483648)) (Label2 ((w - 3221225472) % 1073741824)))) < 1073741824
-    by_label0 true e = let g : w < 2147483648 = grind (arith, nat_tests) in omega arith
-    by_label0 false e = by_label1 (ltb w 3221225472) refl
-
-    by_leaf : (c : Bool) → ltb w 1073741824 ≡ c →
-        node_number (cond c (LeafNode w) (cond (ltb w 2147483648) (Label0 (w - 1073741824)) (cond (ltb w 3221225472) (Label1 (w - 2147483648)) (Label2 ((w - 3221225472) % 1073741824))))) < 1073741824
-    by_leaf true e = let g : w < 1073741824 = grind (arith, nat_tests) in g
-    by_leaf false e = by_label0 (ltb w 2147483648) refl
+node_number_node w = grind (arith, nat_tests)
 
 pub node_node_word : (d : Node) → node_number d < 1073741824 → node (node_word d) ≡ d
 node_node_word (LeafNode n) h = node_leaf n h
@@ -169,7 +125,7 @@ span_spell (label2 l t u) s ws k =
     ∙ ap (option_map (λ n. suc n)) (span_spell t s.1 (spell u ws) (suc k) ∙ ap (option_map (λ n. size t + n)) (span_spell u s.2 ws k) ∙ mapped_mapped (span ws k) (size t) (size u) (size t + size u) refl)
     ∙ mapped_suc (span ws k) (size t + size u)
 
-span_zero : (ws : List ℕ) → span ws 0 ≡ Some 0
+pub span_zero : (ws : List ℕ) → span ws 0 ≡ Some 0
 span_zero [] = refl
 span_zero (w ∷ ws) = refl
 

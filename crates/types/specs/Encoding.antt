@@ -19,7 +19,8 @@ abbrev pub TellsSame : List ℕ → List ℕ → Bool → Type 0
 TellsSame xs ys r = (t u : Ty) → Spelled t → Spelled u → encode t ≡ xs → encode u ≡ ys → Decides r (t ≡ u)
 
 -- a 32-bit word is the word of the node that it says, and a node with at most 30 bits of number is what its word says;
--- a type has one word for each label and leaf; decoding what was encoded gives it back; different types have different words; whether words are equal tells whether their types are
+-- a type has one word for each label and leaf; decoding what was encoded gives it back; different types have different words;
+-- whether words are equal tells whether their types are
 pub record Encoding : Type 0 where
   pub reads : (w : ℕ) → w < 4294967296 → node_word (node w) ≡ w
   pub writes : (d : Node) → node_number d < 1073741824 → node (node_word d) ≡ d

@@ -19,11 +19,11 @@ pub enum Node {
 pub struct NumberTooLong;
 
 // The first words of the labels with 0, 1 and 2 parts.
-const LABEL0: u32 = 0x4000_0000;
+pub const LABEL0: u32 = 0x4000_0000;
 
-const LABEL1: u32 = 0x8000_0000;
+pub const LABEL1: u32 = 0x8000_0000;
 
-const LABEL2: u32 = 0xC000_0000;
+pub const LABEL2: u32 = 0xC000_0000;
 
 // What a word says: its top two bits tell leaf and labels apart, the others are the number. Constant time.
 impl From<u32> for Node {
@@ -82,6 +82,7 @@ pub fn copy_run(words: &[u32], out: &mut [u32], n: usize) -> Option<usize>
     ensures end { result ≡ copied_end words.now n (length out.old) }
     ensures after { out.new ≡ copied words.now n out.old }
 {
+    // not `get_mut(n..end)`: the library promises nothing of the elements written through it
     let end = n.checked_add(words.len()).filter(|end| *end <= out.len())?;
     out[n..end].copy_from_slice(words);
     Some(end)
@@ -122,6 +123,7 @@ pub fn are_types(words: &[u32]) -> bool
     ensures tells { result ≡ whole words.now }
     ensures means { Decides result (AreTypes words.now) }
 {
+    // not `try_fold`: the library states no bound on the count that its closure takes
     let mut count: usize = 0;
     for word in words.iter().rev() {
         let Some(n) = types_with(Node::from(*word), count) else {
