@@ -1,5 +1,5 @@
 -- The order of the numbers of names is the order of the names.
-use Rattle.std.proofs.Common.{◌≡◌, ℕ, zero, suc, ◌+◌, ◌-◌, ◌*◌, ◌^◌, ◌<◌, ◌≤◌, Bool, true, false, cond, not, ◌&&◌, eqb, ltb, leb, ◌⊎◌, List, [], ◌∷◌, ◌++◌, length, get_or, drop, replicate, Some, None, Option, sym, refl, ap, ◌∙◌, subst, inl, inr, ⊎_elim, mul-le-mul_right, mul_comm, pow-suc, arith}
+use Rattle.std.proofs.Common.{◌≡◌, ℕ, zero, suc, ◌+◌, ◌-◌, ◌*◌, ◌^◌, ◌<◌, ◌≤◌, true, not, ◌&&◌, eqb, ltb, leb, ◌⊎◌, List, [], ◌∷◌, ◌++◌, length, get_or, drop, replicate, Some, Option, sym, refl, ap, ◌∙◌, subst, inl, inr, ⊎_elim, mul-le-mul_right, mul_comm, pow-suc, arith}
 use lib.Arith.{digits_lt}
 use Rattle.std.specs.Int.{w128, from_be_bytes}
 use Rattle.std.specs.Int.Digits.{number_from_digits, AllBelowBase}
@@ -9,6 +9,7 @@ use Rattle.std.specs.List.{list_any}
 use Rattle.store.proofs.Seats.{none_is}
 use Rattle.store.specs.Numbers.{gather}
 use Rattle.store.specs.Names.{no_zero, is_name, number_of, name_number, NameLess, Ordered}
+use Rattle.std.proofs.lemmas.Option.{cond_some}
 use Rattle.store.proofs.Digits.{number_first, power_pos, gathered}
 
 -- the number of the first k bytes, with zeros behind them
@@ -73,11 +74,7 @@ ways (x ∷ xs) (y ∷ ys) = go (cases_order x y) (ways xs ys)
 
 -- what a name's number is
 pub number_is : (bs : List ℕ) (m : ℕ) → name_number bs ≡ Some m → (is_name bs ≡ true) × (number_of bs ≡ m)
-number_is bs m e = go (is_name bs) refl e
-  where
-    go : (t : Bool) → is_name bs ≡ t → cond t (Some (number_of bs)) None ≡ Some m → (is_name bs ≡ true) × (number_of bs ≡ m)
-    go true h f = (h, cc)
-    go false h f = let z : ◌≡◌ {A = ℕ} 0 1 = cc in absurd (omega arith)
+number_is bs m e = cond_some (is_name bs) (number_of bs) m e
 
 pub name_parts : (bs : List ℕ) → is_name bs ≡ true → (length bs ≤ 16) × (no_zero bs ≡ true)
 name_parts bs e =

@@ -1,6 +1,6 @@
 // The directory of a store: at most 16 records, each one sound, no two of one name.
 ghost use Rattle.std.specs.Prelude.{◌≡◌, [], length};
-ghost use Rattle.store.specs.Entries.{entry_at, found, seat as seat_of};
+ghost use Rattle.store.specs.Entries.{entry_at, found};
 ghost use Rattle.store.specs.Directories.{With, Without};
 
 use super::edit::is_sound;
@@ -77,13 +77,6 @@ impl Directory {
         self.records().iter().position(|e| e.name == name)
     }
 
-    // The place of the record of this name, or the count of records where there is none. At most 16 steps.
-    fn seat(&self, name: u128) -> usize
-        ensures { result ≡ seat_of name self.now }
-    {
-        self.find(name).unwrap_or(self.len())
-    }
-
     // The directory with this record in place of the one of its name, or behind the last, and its place there; None
     // where the record is not sound or 16 others are there. At most 16 steps.
     pub fn with(self, e: Entry) -> Option<(Directory, usize)>
@@ -92,7 +85,7 @@ impl Directory {
         if !is_sound(e) {
             return None;
         }
-        let i = self.seat(e.name);
+        let i = self.find(e.name).unwrap_or(self.count);
         if i >= MOST_UNITS {
             return None;
         }
@@ -112,10 +105,7 @@ impl Directory {
     pub fn without(self, name: u128) -> Option<(Directory, usize)>
         ensures { Without name self result }
     {
-        let i = self.seat(name);
-        if i >= self.count {
-            return None;
-        }
+        let i = self.find(name)?;
         let mut entries = self.entries;
         entries[i] = entries[self.count - 1];
         entries[self.count - 1] = BLANK;

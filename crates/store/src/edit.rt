@@ -16,7 +16,8 @@ pub fn is_sound(e: Entry) -> bool
         && usize::from(e.span) <= LONGEST_TEXT
 }
 
-// Whether two names may not stand in one directory: a test of its own, for the specs state the same rule once, as `clash`. Constant time.
+// Whether two names may not stand in one directory. Constant time.
+// A named function though it is `==`: the rule that the specs call `clash` stands in one place of the code too.
 pub fn clashes(a: u128, b: u128) -> bool
     ensures { result ≡ clash a b }
 {
