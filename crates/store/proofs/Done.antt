@@ -1,5 +1,5 @@
 -- What put and remove leave and answer, step by step.
-use Rattle.std.proofs.Common.{◌≡◌, ℕ, zero, suc, ◌+◌, ◌-◌, ◌^◌, ◌<◌, ◌≤◌, Bool, true, false, cond, ◌&&◌, ◌||◌, eqb, ltb, leb, List, [], ◌∷◌, ◌++◌, length, get_or, take, drop, replicate, is_ok, Some, None, Ok, Err, sym, refl, ap, ◌∙◌, subst, ⊎_elim, arith}
+use Rattle.std.proofs.Common.{◌≡◌, ℕ, zero, suc, ◌+◌, ◌-◌, ◌^◌, ◌<◌, ◌≤◌, Bool, true, false, cond, ◌&&◌, ◌||◌, eqb, ltb, leb, List, [], ◌∷◌, ◌++◌, length, get_or, take, drop, replicate, is_ok, Some, Ok, Err, sym, refl, ap, ◌∙◌, subst, ⊎_elim, arith}
 use Rattle.std.specs.Int.Digits.{AllBelowBase}
 use Rattle.std.proofs.lemmas.Int.Digits.{number_lt}
 use Rattle.std.proofs.lemmas.List.{length-append, length-replicate, length-take-le, length-drop}
@@ -13,6 +13,7 @@ use Rattle.store.specs.Entries.{blank, sound, lawful, seat, fits, entered, vacat
 use Rattle.store.specs.Layout.{encode, decode, stored, written}
 use Rattle.store.specs.Units.{slot, units, put_in, taken_out}
 use Rattle.store.specs.Calls.{has_name, number_in, room, name_in, record_for, unit_for, put_answer, with_unit, store_after_put, remove_answer, last_text, without_unit, store_after_remove}
+use Rattle.std.proofs.lemmas.Option.{cond_some}
 use Rattle.store.proofs.Order.{under_from}
 use Rattle.store.proofs.Laid.{length_laid}
 use Rattle.store.proofs.Lawful.{lawful_parts}
@@ -21,11 +22,7 @@ use Rattle.store.proofs.Holding.{put_units, remove_units, lawful_stored, span_at
 
 -- the number of a name in a text is told only where a name stands there
 pub told : (text : List ℕ) (place size n : ℕ) → Some n ≡ name_in text place size → (has_name text place size ≡ true) × (n ≡ number_in text place size)
-told text place size n e = go (has_name text place size) refl e
-  where
-    go : (t : Bool) → has_name text place size ≡ t → Some n ≡ cond t (Some (number_in text place size)) None → (has_name text place size ≡ true) × (n ≡ number_in text place size)
-    go true h f = (h, cc)
-    go false h f = let z : ◌≡◌ {A = ℕ} 0 1 = cc in absurd (omega arith)
+told text place size n e = let p = cond_some (has_name text place size) (number_in text place size) n (sym e) in (p.0, sym p.1)
 
 -- a name in a text lies in it and has 1 to 16 bytes
 pub name_inside : (text : List ℕ) (place size : ℕ) → has_name text place size ≡ true → (place + size ≤ length text) × (0 < size) × (size ≤ 16)

@@ -1,14 +1,16 @@
 -- The order of the numbers of names is the order of the names.
-use Rattle.std.proofs.Common.{◌≡◌, ℕ, zero, suc, ◌+◌, ◌-◌, ◌*◌, ◌^◌, ◌<◌, ◌≤◌, Bool, true, false, cond, not, ◌&&◌, eqb, ltb, leb, ◌⊎◌, List, [], ◌∷◌, ◌++◌, length, get_or, replicate, Some, None, Option, sym, refl, ap, ◌∙◌, subst, inl, inr, ⊎_elim, mul-le-mul_right, mul_comm, pow-suc, arith}
+use Rattle.std.proofs.Common.{◌≡◌, ℕ, zero, suc, ◌+◌, ◌-◌, ◌*◌, ◌^◌, ◌<◌, ◌≤◌, true, not, ◌&&◌, eqb, ltb, leb, ◌⊎◌, List, [], ◌∷◌, ◌++◌, length, get_or, drop, replicate, Some, Option, sym, refl, ap, ◌∙◌, subst, inl, inr, ⊎_elim, mul-le-mul_right, mul_comm, pow-suc, arith}
 use lib.Arith.{digits_lt}
+use Rattle.std.specs.Int.{w128, from_be_bytes}
 use Rattle.std.specs.Int.Digits.{number_from_digits, AllBelowBase}
-use Rattle.std.proofs.lemmas.List.{length-append, length-replicate}
+use Rattle.std.proofs.lemmas.List.{length-append, length-replicate, length-drop, drop-replicate}
 use Rattle.std.proofs.lemmas.Bool.{and_parts, leb-true, not-true, eqb-false, cases_order}
 use Rattle.std.specs.List.{list_any}
 use Rattle.store.proofs.Seats.{none_is}
 use Rattle.store.specs.Numbers.{gather}
 use Rattle.store.specs.Names.{no_zero, is_name, number_of, name_number, NameLess, Ordered}
-use Rattle.store.proofs.Digits.{number_first, power_pos}
+use Rattle.std.proofs.lemmas.Option.{cond_some}
+use Rattle.store.proofs.Digits.{number_first, power_pos, gathered}
 
 -- the number of the first k bytes, with zeros behind them
 val : ℕ → List ℕ → ℕ
@@ -72,11 +74,7 @@ ways (x ∷ xs) (y ∷ ys) = go (cases_order x y) (ways xs ys)
 
 -- what a name's number is
 pub number_is : (bs : List ℕ) (m : ℕ) → name_number bs ≡ Some m → (is_name bs ≡ true) × (number_of bs ≡ m)
-number_is bs m e = go (is_name bs) refl e
-  where
-    go : (t : Bool) → is_name bs ≡ t → cond t (Some (number_of bs)) None ≡ Some m → (is_name bs ≡ true) × (number_of bs ≡ m)
-    go true h f = (h, cc)
-    go false h f = let z : ◌≡◌ {A = ℕ} 0 1 = cc in absurd (omega arith)
+number_is bs m e = cond_some (is_name bs) (number_of bs) m e
 
 pub name_parts : (bs : List ℕ) → is_name bs ≡ true → (length bs ≤ 16) × (no_zero bs ≡ true)
 name_parts bs e =
@@ -108,3 +106,11 @@ under_from (b ∷ bs) f = (f 0, under_from bs (λ k. f (suc k)))
 -- no byte is zero, in the words of the library
 pub no_zero_is : (bs : List ℕ) → not (list_any (λ b. eqb b 0) bs) ≡ no_zero bs
 no_zero_is = none_is no_zero (λ b. eqb b 0) refl (λ x xs. refl)
+
+-- the number of 16 bytes of which a name is the front, and the others are zero
+pub padded_number : (bs : List ℕ) → length bs ≤ 16 → from_be_bytes w128 (bs ++ drop (length bs) (replicate 16 0)) ≡ number_of bs
+padded_number bs h =
+    let zeros : List ℕ = replicate 16 0 in
+    let rest = drop (length bs) zeros in
+    let long : length (bs ++ rest) ≡ 16 = length-append bs rest ∙ omega (arith, length-drop (length bs) zeros, length-replicate {A = ℕ} 16 0) in
+    gathered 15 (bs ++ rest) long ∙ ap (λ t. gather (bs ++ t)) (drop-replicate (length bs) 16 0)

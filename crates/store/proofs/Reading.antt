@@ -1,29 +1,23 @@
 -- A record that was read from a store, and the parts of the store that it tells.
-use Rattle.std.proofs.Common.{◌≡◌, ℕ, ◌+◌, ◌-◌, ◌<◌, ◌≤◌, Bool, true, false, cond, ltb, List, length, get_or, take, drop, Some, None, sym, refl, ap, ◌∙◌, arith}
+use Rattle.std.proofs.Common.{◌≡◌, ℕ, ◌+◌, ◌-◌, ◌<◌, ◌≤◌, ltb, List, length, get_or, take, drop, Some, None, sym, ap, ◌∙◌, arith}
 use Rattle.std.proofs.lemmas.List.{length-take-le, length-drop, take-take, drop-drop, drop-take}
 use Rattle.std.proofs.lemmas.Bool.{ltb-true, ltb-false}
 use Rattle.store.specs.declared.entry.Entry.{Entry}
 use Rattle.store.specs.Entries.{blank, entry_at}
 use Rattle.store.specs.Layout.{stored}
 use Rattle.store.specs.Units.{slot, units, no_unit}
+use Rattle.std.proofs.lemmas.Option.{cond_some}
+use Rattle.store.proofs.Seats.{none_told}
 use Rattle.store.proofs.Holding.{length_held, get_d_held, lawful_stored, span_at}
 use Rattle.store.proofs.Lawful.{lawful_parts}
 use Rattle.store.proofs.Done.{full_length}
 
 -- the k-th record is told where there is one
 pub entry_told : (es : List Entry) (k : ℕ) (e : Entry) → Some e ≡ entry_at k es → (k < length es) × (e ≡ get_or es k blank)
-entry_told es k e h = go (ltb k (length es)) refl h
-  where
-    go : (t : Bool) → ltb k (length es) ≡ t → Some e ≡ cond t (Some (get_or es k blank)) None → (k < length es) × (e ≡ get_or es k blank)
-    go true a f = (ltb-true k (length es) a, cc)
-    go false a f = let z : ◌≡◌ {A = ℕ} 0 1 = cc in absurd (omega arith)
+entry_told es k e h = let p = cond_some (ltb k (length es)) (get_or es k blank) e (sym h) in (ltb-true k (length es) p.0, sym p.1)
 
 pub no_entry : (es : List Entry) (k : ℕ) → None ≡ entry_at k es → length es ≤ k
-no_entry es k h = go (ltb k (length es)) refl h
-  where
-    go : (t : Bool) → ltb k (length es) ≡ t → None ≡ cond t (Some (get_or es k blank)) None → length es ≤ k
-    go true a f = let z : ◌≡◌ {A = ℕ} 0 1 = cc in absurd (omega arith)
-    go false a f = ltb-false k (length es) a
+no_entry es k h = ltb-false k (length es) (none_told (ltb k (length es)) (get_or es k blank) h)
 
 -- the numbers of a record that was read
 pub record_bounds : (s : List ℕ) (k : ℕ) → k < length (stored s) →

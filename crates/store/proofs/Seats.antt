@@ -1,10 +1,11 @@
 -- The place of a name among records, and lists changed at one place.
-use Rattle.std.proofs.Common.{◌≡◌, ℕ, zero, suc, ◌+◌, ◌-◌, ◌<◌, ◌≤◌, max, Bool, true, false, cond, not, ◌&&◌, ◌||◌, eqb, List, [], ◌∷◌, ◌++◌, length, get_or, take, set, sym, refl, ap, ◌∙◌, ⊎_elim, Some, None, unwrap_or, arith}
+use Rattle.std.proofs.Common.{◌≡◌, ℕ, zero, suc, ◌+◌, ◌-◌, ◌<◌, ◌≤◌, max, Bool, true, false, cond, not, ◌&&◌, ◌||◌, eqb, ltb, List, [], ◌∷◌, ◌++◌, length, get_or, take, set, sym, refl, ap, ◌∙◌, ⊎_elim, Some, None, unwrap_or, arith}
 use Rattle.std.proofs.lemmas.List.{set_split, take_more_set, take_more, take-take, take_all, drop_all, length-take-le, get_or-take}
-use Rattle.std.proofs.lemmas.Bool.{cases_lt, lt-ltb, le-ltb}
+use Rattle.std.proofs.lemmas.Bool.{cases_lt, lt-ltb, le-ltb, ltb-true, ltb-false}
 use Rattle.std.proofs.lemmas.List.Recursion.{is_position_or_len, same_from_clauses}
 use Rattle.std.proofs.lemmas.List.Sums.{prefix_len-le-length}
 use Rattle.std.specs.List.{position, position_or_len, list_any}
+use Rattle.std.proofs.lemmas.Option.{cond_some}
 use Rattle.store.specs.declared.entry.Entry.{Entry}
 use Rattle.store.specs.Entries.{seat, found, entered, vacated, clash, absent}
 
@@ -84,3 +85,15 @@ none_is F p none step = same_from_clauses (λ xs. not (list_any p xs)) F (λ x r
 
 pub absent_is : (n : ℕ) (es : List Entry) → not (list_any (λ e. clash e.name n) es) ≡ absent n es
 absent_is n = none_is (absent n) (λ e. clash e.name n) refl (λ x xs. refl)
+
+-- nothing is told where the test fails
+pub none_told : {X : Type 0} (t : Bool) (y : X) → None ≡ cond t (Some y) None → t ≡ false
+none_told true y e = let z : ◌≡◌ {A = ℕ} 0 1 = cc in absurd (omega arith)
+none_told false y e = refl
+
+-- a place is told where there is one
+pub found_told : (n i : ℕ) (es : List Entry) → Some i ≡ found n es → (seat n es < length es) × (i ≡ seat n es)
+found_told n i es h = let p = cond_some (ltb (seat n es) (length es)) (seat n es) i (sym h) in (ltb-true (seat n es) (length es) p.0, sym p.1)
+
+pub not_found : (n : ℕ) (es : List Entry) → None ≡ found n es → length es ≤ seat n es
+not_found n es h = ltb-false (seat n es) (length es) (none_told (ltb (seat n es) (length es)) (seat n es) h)

@@ -1,7 +1,6 @@
 // How a directory lies in the bytes of a store.
 ghost use Rattle.std.specs.Prelude.{◌≡◌, ◌+◌, ◌≤◌, true, length, is_ok, ◌==◌};
 ghost use Rattle.store.specs.Numbers.{laid};
-ghost use Rattle.store.specs.Directories.{live};
 ghost use Rattle.store.specs.Layout.{record_at, record_bytes, stored, written};
 ghost use Rattle.store.specs.Units.{units, Kept};
 
@@ -59,7 +58,7 @@ fn write_entry(store: &mut [u8], at: usize, e: Entry)
 // The directory of a store; the one without records where the store is unlawful or has another length than a store
 // has. Some steps for each byte of at most 16 records.
 pub fn read(store: &[u8]) -> Directory
-    ensures records { live result ≡ stored store.now }
+    ensures records { result ≡ stored store.now }
     ensures kept { Kept (units store.now) }
 {
     if store.len() != STORE_BYTES {
@@ -84,8 +83,8 @@ pub fn read(store: &[u8]) -> Directory
 // has is refused, and nothing is written. Some steps for each byte of the records.
 pub fn write(directory: Directory, store: &mut [u8]) -> Result<(), WrongLength>
     ensures answer { is_ok result ≡ (length store.old == 65536) }
-    ensures bytes { store.new ≡ written (live directory) store.old }
-    ensures back { is_ok result ≡ true → stored store.new ≡ live directory }
+    ensures bytes { store.new ≡ written directory store.old }
+    ensures back { is_ok result ≡ true → stored store.new ≡ directory }
 {
     if store.len() != STORE_BYTES {
         return Err(WrongLength);

@@ -1,12 +1,9 @@
-use Rattle.std.proofs.Common.{◌≡◌, ℕ, List, drop, true, ◌++◌, length, replicate, Some, None, sym, ap, ◌∙◌, arith}
+use Rattle.std.proofs.Common.{◌≡◌, drop, true, ◌++◌, length, replicate, Some, None, sym, ap, ◌∙◌, arith}
 use Rattle.std.proofs.lemmas.Bool.Decides.{nat_tests}
 use Rattle.std.proofs.lemmas.Bool.{cond-true}
-use Rattle.std.proofs.lemmas.List.{length-append, length-drop, length-replicate, drop-replicate}
 use Rattle.std.specs.Int.{w128, from_be_bytes}
-use Rattle.store.proofs.Digits.{gathered}
-use Rattle.store.specs.Numbers.{gather}
 use Rattle.store.specs.Names.{is_name, name_number, number_of}
-use Rattle.store.proofs.Order.{ordered, under_from, no_zero_is}
+use Rattle.store.proofs.Order.{ordered, under_from, no_zero_is, padded_number}
 use Rattle.store.proofs.name.name_number.Goals.{then-is_empty-via-then-is_empty, then-is_empty-via-else-is_empty+then-bytes-gt-NAME_LIMIT, then-is_empty-via-else-is_empty+else-bytes-gt-NAME_LIMIT+then-contains}
 use Rattle.store.proofs.name.name_number.Goals as goal
 
@@ -25,9 +22,6 @@ returns c =
     let bs = c.args.bytes.now in
     let zero = no_zero_is bs in
     let named : is_name bs ≡ true = grind (arith, nat_tests) in
-    let zeros : List ℕ = replicate 16 0 in
-    let digits = bs ++ drop (length bs) zeros in
-    let long : length digits ≡ 16 = length-append bs (drop (length bs) zeros) ∙ omega (arith, length-drop (length bs) zeros, length-replicate {A = ℕ} 16 0) in
-    let number : c.from_be_bytes.result ≡ gather digits = c.from_be_bytes.ensures ∙ ap (λ x. from_be_bytes w128 (x ++ drop (length bs) zeros)) c.copy_from_slice.ensures.after ∙ gathered 15 digits long in
-    let value : Some c.from_be_bytes.result ≡ name_number bs = ap Some (number ∙ ap (λ t. gather (bs ++ t)) (drop-replicate (length bs) 16 0)) ∙ sym (cond-true (is_name bs) (Some (number_of bs)) None named) in
+    let number : c.from_be_bytes.result ≡ number_of bs = c.from_be_bytes.ensures ∙ ap (λ x. from_be_bytes w128 (x ++ drop (length bs) (replicate 16 0))) c.copy_from_slice.ensures.after ∙ padded_number bs (omega arith) in
+    let value : Some c.from_be_bytes.result ≡ name_number bs = ap Some number ∙ sym (cond-true (is_name bs) (Some (number_of bs)) None named) in
     record { value = value; law = ordered bs (Some c.from_be_bytes.result) (under_from bs (λ k. omega (arith, c.type_inv.bytes k))) value }
