@@ -38,7 +38,7 @@ pub fn open(store: &mut [u8], book: &mut [u32]) -> Result<Open, Fault<Infallible
     ensures words { book.new ≡ open_book store.old book.old }
 {
     lengths(store.len(), book.len(), None)?;
-    let _ = clear(store);
+    clear(store).map_err(|_| Question::Lengths)?;
     book.fill(0);
     Ok(Open { units: 0 })
 }
