@@ -20,7 +20,7 @@ import tempfile
 import time
 
 ROOT = pathlib.Path(__file__).resolve().parent.parent
-SIGNATURE = re.compile(r"(?:abbrev |unfoldable )?(pub )?(?:abbrev |unfoldable )?(\S+) : ")
+SIGNATURE = re.compile(r"(?:abbrev |unfoldable )?(pub )?(?:abbrev |unfoldable )?(\S+) :(?: |$)")
 GOAL = re.compile(r"pub \S+ : goal\.")
 IMPORT = re.compile(r"use (\S+?)(?:\.\{(.*)\}| as (\S+))$")
 BREAKS = re.compile(r"[\s(){};,.`]+")
@@ -36,6 +36,8 @@ class Answers:
         name, waiting = None, []
         for line in self.before.split("\n"):
             head = SIGNATURE.match(line)
+            if line.startswith(("mutual", "module ", "data ", "record ")):
+                raise SystemExit(f"{path}: no answers and lemmas alone: {line}")
             if line.startswith("use "):
                 self.imports.append(line)
             elif line.startswith("--"):
@@ -167,26 +169,25 @@ def whole_time(folder):
 
 
 def unused(name):
-    """Lemmas of proofs/ outside the answers that nothing cites; a name that stands twice counts as cited."""
-    texts = [p.read_text() for p in sorted((ROOT / "crates").glob("*/proofs/**/*.antt")) + sorted((ROOT / "crates").glob("*/specs/**/*.antt"))]
-    texts += [p.read_text() for p in sorted((ROOT / "crates").glob("*/src/**/*.rt"))]
+    """Lemmas of proofs/ that nothing cites; a name that stands twice counts as cited."""
     count = {}
-    for text in texts:
-        for word in BREAKS.split(re.sub(r"(?m)^use .*$|--.*$", "", text)):
-            count[word] = count.get(word, 0) + 1
+    for place in ("proofs/**/*.antt", "specs/**/*.antt", "src/**/*.rt"):
+        for path in (ROOT / "crates").glob("*/" + place):
+            for word in BREAKS.split(re.sub(r"(?m)^use .*$|--.*$", "", path.read_text())):
+                count[word] = count.get(word, 0) + 1
     for path in sorted((ROOT / "crates" / name / "proofs").rglob("*.antt")):
         lines = path.read_text().split("\n")
         for i, line in enumerate(lines):
-            head = SIGNATURE.match(line)
-            if not head or GOAL.match(line) or line.startswith(("use ", "--", " ")):
+            indent = line[:len(line) - len(line.lstrip())]
+            head = SIGNATURE.match(line.lstrip())
+            if not head or GOAL.match(line) or path.name == "Invariants.antt" or set(head.group(2)) & set("(){}"):
                 continue
             own, word = 1, head.group(2)
-            for later in lines[i + 1:]:
-                if later.startswith((" ", ")", "}")) or later.split(" ")[0] in (word, "unfolding", ""):
-                    own += BREAKS.split(later).count(word)
-                else:
+            for later in filter(str.strip, lines[i + 1:]):
+                if not later.startswith(indent + " ") and later.strip().split(" ")[0] not in (word, "unfolding", ")", "}"):
                     break
-            if count.get(word, 0) <= own and path.name not in ("Invariants.antt",):
+                own += BREAKS.split(later).count(word)
+            if count.get(word, 0) <= own:
                 print(f"{path.relative_to(ROOT)}:{i + 1}: {word}")
 
 

@@ -8,7 +8,7 @@ use Rattle.cores.specs.declared.interface.Operation.TheVariants.{Literal, Functi
 use Rattle.cores.specs.Fits.{cond_some}
 use Rattle.rules.specs.Signatures.{Sort, a_type, a_value, a_module, Signature, structure, functor, Components, empty, more, Declaration, defined, value, nested, sort_of, find, on_some}
 use Rattle.rules.specs.Substitution.{reading, on_signature}
-use Rattle.rules.specs.Lookup.{Env, extend, At, Normal, unfolds}
+use Rattle.rules.specs.Lookup.{Env, extend, Normal, unfolds}
 use Rattle.rules.specs.Strengthening.{strengthen}
 use Rattle.rules.specs.Syntax.{type_of, signature_of, Term, variable, component, integer, operation, lambda, Terms, no_terms, more_terms, Module, module_path, struct, functor_of, applied, ascribed, Items, no_items, more_items, Item, type_item, let_item, module_item}
 use Rattle.rules.specs.Rules.{pick, item_sort, Undeclared, TermHas, of_variable, of_component, of_integer, of_operation, of_lambda, TermsHave, none_have, more_have, Derives, by_path, by_items, by_functor, by_application, by_signature, DerivesAll, no_item, type_too, let_too, module_too}
@@ -26,7 +26,7 @@ use Rattle.rules.proofs.Terms.{term_finer}
 use Rattle.rules.proofs.Derived.{find_none, undeclared_none, derives_all_proper}
 use Rattle.rules.proofs.Principal.{longer_extend, last_has, same_finer, fits_more, fits_functor, principal}
 use Rattle.rules.proofs.Settling.{Settled, SettledAll, SettledEnv, settled_proper, settled_env_proper, settled_extend, lookup_at, declared_has, has_declared, normal_type_lem, type_normal, then_some, then_is, unless_some, unless_is}
-use Rattle.rules.proofs.Normalizing.{fits_along_fresh, none_before, NormalOf, normalize_is}
+use Rattle.rules.proofs.Normalizing.{fits_along_fresh, none_before, normalize_is}
 use Rattle.rules.proofs.Deciding.{normal_value_lem, match_tells}
 
 pub accepted_is : {C : Type 0} (o : Outcome C) (t : Ty) → accepted o ≡ Some t → o ≡ gives t
@@ -129,10 +129,6 @@ pub record ChecksAll {C : Type 0} (rule : Operation → List Ty → Outcome C) (
   pub settled : SettledAll Γ c
 
 module _ {C : Type 0} (n : ℕ) (rule : Operation → List Ty → Outcome C) (law : Stable n rule) where
-  -- a path with its strengthened signature in normal form
-  path_settled : (Γ : Env) (p : ModulePath) (a b : Signature) → SettledEnv Γ → At Γ p a → normalize Γ (strengthen p a) ≡ Some b → NormalOf Γ (strengthen p a) b
-  path_settled Γ p a b e i q = normalize_is (strengthen p a) Γ b e q
-
   apply_checks :
       (Γ : Env) (place argument : ℕ) (m : Module) (p : ModulePath) (f t : Signature) → SettledEnv Γ → Checks rule Γ m f → apply Γ p f ≡ Some t →
       Checks rule Γ (applied place m argument p) t
