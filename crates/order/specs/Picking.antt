@@ -1,7 +1,7 @@
 -- The load order, built by picking the next unit again and again.
-use Rattle.std.specs.Prelude.{◌≡◌, ℕ, zero, suc, ◌<◌, Bool, true, false, cond, not, ◌&&◌, ◌||◌, ◌⊎◌, List, [], ◌∷◌, Some, None, Option, ◌==◌, nat_lt}
+use Rattle.std.specs.Prelude.{◌≡◌, ℕ, zero, suc, ◌<◌, Bool, true, false, not, ◌&&◌, ◌||◌, ◌⊎◌, List, [], ◌∷◌, Some, None, Option, ◌==◌, nat_lt}
 use Rattle.order.specs.Units.{Units, names}
-use Rattle.order.specs.Compare.{TupleFirst, earlier, tuple, tuple_before}
+use Rattle.order.specs.Compare.{TupleFirst, earlier, tuple}
 use Rattle.order.specs.Least.{best}
 
 -- the unit at i is ready: there is one, it is not placed, and all units that it names are placed
@@ -30,11 +30,6 @@ named_placed u placed i = not (u.lacks i) && all_below u.count (λ j. not (names
 -- the unit at i is ready
 abbrev pub ready : Units → (ℕ → Bool) → ℕ → Bool
 ready u placed i = nat_lt i u.count && (not (placed i) && named_placed u placed i)
-
--- the one of two tuples of rank and place that comes first
-abbrev pub lesser_tuple : Units → Option (ℕ × ℕ) → ℕ × ℕ → Option (ℕ × ℕ)
-lesser_tuple u None found = Some found
-lesser_tuple u (Some best) found = Some (cond (tuple_before u found best) found best)
 
 -- the next unit: of those that are ready, the least by rank and then by name
 abbrev pub next : Units → (ℕ → Bool) → Option ℕ
