@@ -32,6 +32,7 @@ pub fn is_absent(name: u128, entries: &[Entry]) -> bool
 }
 
 // Whether records can be those of a directory. At most 16 steps for each of at most 16 records.
+// A `for`: of an `all` with this closure over the enumerated records the check does not find what it answers.
 pub fn is_lawful(entries: &[Entry]) -> bool
     ensures { result ≡ lawful entries.now }
 {

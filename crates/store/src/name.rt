@@ -7,6 +7,7 @@ use tokens::lexer::NAME_LIMIT;
 
 // The number of a name: its bytes as 16 digits to the base 256, filled up at the right with zeros. None for bytes
 // that are no name: none or over 16 of them, or one of them zero. At most 16 steps.
+// A function and no TryFrom: the trait and u128 are both another crate's.
 pub fn name_number(bytes: &[u8]) -> Option<u128>
     ensures value { result ≡ name_number bytes.now }
     ensures law { Ordered bytes.now result }

@@ -74,6 +74,7 @@ pub fn clear(store: &mut [u8]) -> Result<(), WrongLength>
 
 // Puts a unit into a store: in place of the one of its name, or behind the last. Answers its place among the units.
 // A step for each byte of the text and of the records.
+// The place and size of the name stay two numbers: besides `name_within` nothing takes them together.
 pub fn put(
     store: &mut [u8],
     text: &[u8],
