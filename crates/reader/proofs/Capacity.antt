@@ -1,5 +1,5 @@
 -- A stack from which a text is read to its end is never deeper than what is left of the text.
-use Rattle.std.proofs.Common.{◌≡◌, ℕ, zero, suc, ◌-◌, ◌<◌, ◌≤◌, true, false, List, [], ◌∷◌, ◌++◌, length, Some, None, Option, sym, refl, ap, ◌∙◌, subst, arith, length-append}
+use Rattle.std.proofs.Common.{◌≡◌, ℕ, zero, suc, ◌-◌, ◌<◌, ◌≤◌, List, [], ◌∷◌, ◌++◌, length, Some, None, Option, sym, refl, ◌∙◌, subst, arith, length-append}
 use Rattle.tokens.specs.Lexer.{Next, at_end, token, no_token, next_token}
 use Rattle.tokens.proofs.Walk.{advance}
 use Rattle.cores.specs.Meaning.{Word}
@@ -7,9 +7,7 @@ use Rattle.reader.specs.declared.symbol.Symbol.{Symbol}
 use Rattle.reader.specs.Tokens.{Token, token_of}
 use Rattle.reader.specs.Streams.{ahead, stream_from, stream_of, tokens_in, in_front}
 use Rattle.reader.specs.Reading.{accepted, reads, default_rank}
-use Rattle.reader.specs.Frames.{symbols_of, symbol_kept, attrs_of, attr_at}
 use Rattle.reader.proofs.Shapes.{Tree, print}
-use Rattle.reader.proofs.Checks.{sealed}
 use Rattle.reader.proofs.Choosing.{Alternative, choose}
 use Rattle.reader.proofs.Laws.{run, Described, describe}
 use Rattle.reader.proofs.Turns.{State}
@@ -65,24 +63,3 @@ not_deep ws text start σ from rank n s h e =
     let a = run_long d.0 σ d.2 in
     let b = stream_long s.fuel ws text from d.0 h d.1 in
     omega arith
-
-pub symbols_long : (w : List ℕ) (n : ℕ) → length (symbols_of w n) ≡ n
-symbols_long w zero = refl
-symbols_long w (suc n) = ap suc (symbols_long w n)
-
--- the top of the frames
-pub frames_top : (w : List ℕ) (d : ℕ) → 0 < d → symbols_of w d ≡ symbol_kept w (d - 1) ∷ symbols_of w (d - 1)
-frames_top w zero h = absurd (omega arith)
-frames_top w (suc d) h = let e : d ≡ suc d - 1 = omega arith in ap (λ (n : ℕ). symbol_kept w n ∷ symbols_of w n) e
-
-pub attrs_top : (w : List ℕ) (d : ℕ) → 0 < d → attrs_of w d ≡ attr_at w (d - 1) ∷ attrs_of w (d - 1)
-attrs_top w zero h = absurd (omega arith)
-attrs_top w (suc d) h = let e : d ≡ suc d - 1 = omega arith in ap (λ (n : ℕ). attr_at w n ∷ attrs_of w n) e
-
-false_true : false ≡ true → ⊥
-false_true e = let z : ◌≡◌ {A = ℕ} 0 1 = cc in omega arith
-
--- sealed frames are not empty
-pub sealed_frames : (w : List ℕ) (d : ℕ) → sealed (symbols_of w d) ≡ true → 0 < d
-sealed_frames w zero h = absurd (false_true h)
-sealed_frames w (suc d) h = omega arith

@@ -6,8 +6,8 @@ use Rattle.reader.specs.declared.symbol.Symbol.{Symbol}
 use Rattle.reader.specs.Codes.{symbol_at, symbol_number}
 use Rattle.reader.specs.Notes.{Around}
 use Rattle.reader.specs.Annotate.{Attr, inherit, inherits}
-use Rattle.reader.specs.Frames.{attr_at, symbol_kept, symbols_of, attrs_of, five_at}
-use Rattle.reader.proofs.StackWords.{symbol_back}
+use Rattle.reader.specs.Frames.{Framed, framed, attr_at, symbol_kept, symbols_of, attrs_of, five_at}
+use Rattle.reader.proofs.AllSymbols.{symbol_back}
 
 -- a set does not reach another place
 other : (w : List ℕ) (i j v : ℕ) → j ≢ i → get_or (set w i v) j 0 ≡ get_or w j 0
@@ -92,6 +92,63 @@ attrs_push w i a f h =
       outer = record { opened = five_3 w i a b c d e h k; scope = five_4 w i a b c d e h k };
     })
     ∙ ap (λ (x : List (Attr ℕ)). f ∷ x) (attrs_below w i a b c d e i (omega arith))
+
+-- as many symbols as frames
+pub symbols_long : (w : List ℕ) (n : ℕ) → length (symbols_of w n) ≡ n
+symbols_long w zero = refl
+symbols_long w (suc n) = ap suc (symbols_long w n)
+
+pub five_long : (w : List ℕ) (i a b c d e : ℕ) → length (five_at w i a b c d e) ≡ length w
+five_long w i a b c d e = simp length-set
+
+-- there are words for one frame more
+pub frame_within : (w : List ℕ) (n : ℕ) (v : Framed) → framed w n ≡ v → 5 * length v.symbols + 5 ≤ v.room → 5 * n + 5 ≤ length w
+frame_within w n v e h =
+    let s = ap (λ (x : Framed). length x.symbols) e in
+    let r = ap (λ (x : Framed). x.room) e in
+    omega (arith, symbols_long w n)
+
+-- the top frame and those below
+pub frame_pop : (w : List ℕ) (n : ℕ) (v : Framed) (s : Symbol) (f : Attr ℕ) → framed w n ≡ v → 0 < length v.symbols →
+    s ≡ symbol_kept w (n - 1) → f ≡ attr_at w (n - 1) →
+    v ≡ record { symbols = s ∷ symbols_of w (n - 1); attrs = f ∷ attrs_of w (n - 1); room = length w }
+frame_pop w zero v s f e h is at = absurd (let l = ap (λ (x : Framed). length x.symbols) e in omega arith)
+frame_pop w (suc n) v s f e h is at =
+    let back : suc n - 1 ≡ n = omega arith in
+    let top : symbol_kept w n ∷ symbols_of w n ≡ s ∷ symbols_of w (suc n - 1) =
+    ap (λ (m : ℕ). symbol_kept w m ∷ symbols_of w m) (sym back) ∙ ap (λ (x : Symbol). x ∷ symbols_of w (suc n - 1)) (sym is) in
+    let kept : attr_at w n ∷ attrs_of w n ≡ f ∷ attrs_of w (suc n - 1) =
+    ap (λ (m : ℕ). attr_at w m ∷ attrs_of w m) (sym back) ∙ ap (λ (x : Attr ℕ). x ∷ attrs_of w (suc n - 1)) (sym at) in
+    sym e ∙ (λ i. record { symbols = top i; attrs = kept i; room = length w })
+
+-- the top alone
+pub frame_top : (v : Framed) (s : Symbol) (f : Attr ℕ) (σ : List Symbol) (attrs : List (Attr ℕ)) (n : ℕ) → v ≡ record { symbols = s ∷ σ; attrs = f ∷ attrs; room = n } →
+    (v.symbols ≡ s ∷ drop 1 v.symbols) × (v.attrs ≡ f ∷ drop 1 v.attrs)
+frame_top v s f σ attrs n e = (
+  ap (λ (x : Framed). x.symbols) e ∙ ap (λ (x : Framed). s ∷ drop 1 x.symbols) (sym e),
+  ap (λ (x : Framed). x.attrs) e ∙ ap (λ (x : Framed). f ∷ drop 1 x.attrs) (sym e),
+)
+
+-- what is left below it
+pub frame_below : (w : List ℕ) (n : ℕ) (v : Framed) (s : Symbol) (f : Attr ℕ) → framed w n ≡ v → v.symbols ≡ s ∷ drop 1 v.symbols → v.attrs ≡ f ∷ drop 1 v.attrs →
+    v ≡ record { symbols = s ∷ symbols_of w (n - 1); attrs = f ∷ attrs_of w (n - 1); room = length w }
+frame_below w zero v s f e h k = absurd (let a = ap (λ (x : Framed). length x.symbols) e in let b = ap length h in omega arith)
+frame_below w (suc n) v s f e h k =
+    let back : n ≡ suc n - 1 = omega arith in
+    let top = h ∙ ap (λ (x : Framed). s ∷ drop 1 x.symbols) (sym e) ∙ ap (λ (m : ℕ). s ∷ symbols_of w m) back in
+    let kept = k ∙ ap (λ (x : Framed). f ∷ drop 1 x.attrs) (sym e) ∙ ap (λ (m : ℕ). f ∷ attrs_of w m) back in
+    λ i. record { symbols = top i; attrs = kept i; room = ap (λ (x : Framed). x.room) (sym e) i }
+
+-- the stack with one frame more
+pub frame_put : (w : List ℕ) (n : ℕ) (v : Framed) (s : Symbol) (f : Attr ℕ) (w' : List ℕ) → framed w n ≡ v → 5 * n + 5 ≤ length w →
+    w' ≡ five_at w n (symbol_number s) f.inner.opened f.inner.scope f.outer.opened f.outer.scope →
+    framed w' (n + 1) ≡ record { symbols = s ∷ v.symbols; attrs = f ∷ v.attrs; room = v.room }
+frame_put w n v s f w' e h is =
+    let top = ap (λ (x : List ℕ). symbols_of x (n + 1)) is ∙ symbols_push w n f.inner.opened f.inner.scope f.outer.opened f.outer.scope s h
+    ∙ ap (λ (y : Framed). s ∷ y.symbols) e in
+    let kept = ap (λ (x : List ℕ). attrs_of x (n + 1)) is ∙ attrs_push w n (symbol_number s) f h ∙ ap (λ (y : Framed). f ∷ y.attrs) e in
+    let room = ap length is ∙ five_long w n (symbol_number s) f.inner.opened f.inner.scope f.outer.opened f.outer.scope ∙ ap (λ (y : Framed). y.room) e in
+    λ i. record { symbols = top i; attrs = kept i; room = room i }
 
 -- ---- what is handed on, place by place
 

@@ -23,6 +23,11 @@ first_of (Some q) bad p = Some q
 abbrev pub listed : List ℕ → Bool → ℕ → List ℕ
 listed ps wanted p = cond wanted (ps ++ p ∷ []) ps
 
+-- the places listed so far, and how many there is room for
+pub record Listing : Type 0 where
+  pub places : List ℕ
+  pub room : ℕ
+
 -- where a token's name stands; an empty part where it is no name
 abbrev pub span_of : Class → ℕ → ℕ → ℕ × ℕ
 span_of c place end = cond (is c Class.Lower) (place, end) (cond (is c Class.Upper) (place, end) (0, 0))

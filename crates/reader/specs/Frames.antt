@@ -1,5 +1,5 @@
 -- Frames in words of memory: a symbol, and what surrounds it and what follows it, scopes by the numbers of their entries.
-use Rattle.std.specs.Prelude.{ℕ, zero, suc, ◌+◌, ◌*◌, List, [], ◌∷◌, slice_index, slice_set}
+use Rattle.std.specs.Prelude.{ℕ, zero, suc, ◌+◌, ◌*◌, List, [], ◌∷◌, length, slice_index, slice_set}
 use Rattle.reader.specs.declared.frame.Place.{Place}
 use Rattle.reader.specs.declared.frame.Frame.{Frame}
 use Rattle.reader.specs.declared.symbol.Symbol.{Symbol}
@@ -32,6 +32,16 @@ symbols_of words (suc n) = symbol_kept words n ∷ symbols_of words n
 abbrev pub attrs_of : List ℕ → ℕ → List (Attr ℕ)
 attrs_of words zero = []
 attrs_of words (suc n) = attr_at words n ∷ attrs_of words n
+
+-- what a stack of frames holds, the top first: their symbols, what is kept with them, and how many words there are
+pub record Framed : Type 0 where
+  pub symbols : List Symbol
+  pub attrs : List (Attr ℕ)
+  pub room : ℕ
+
+-- the stack of the first n frames of these words
+abbrev pub framed : List ℕ → ℕ → Framed
+framed words n = record { symbols = symbols_of words n; attrs = attrs_of words n; room = length words }
 
 -- five words written from a place on
 abbrev pub five_at : List ℕ → ℕ → ℕ → ℕ → ℕ → ℕ → ℕ → List ℕ

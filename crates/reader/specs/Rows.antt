@@ -45,6 +45,11 @@ scope_from (suc n) row text (suc i) = entry_at row text i ∷ scope_from n row t
 abbrev pub scope_of : List ℕ → List ℕ → ℕ → Scope
 scope_of row text i = scope_from i row text i
 
+-- the words of a row, and how many entries there are
+pub record Entered : Type 0 where
+  pub words : List ℕ
+  pub count : ℕ
+
 -- what the code hands out of a scope: an entry, with the name's bytes in place of the reference to them, and those that it goes through
 abbrev pub binding_of : Entry → Binding
 binding_of e = record { binder = e.binder; name = e.name.now }

@@ -1,5 +1,6 @@
 -- What going through a text that reads tells.
-use Rattle.std.specs.Prelude.{◌≡◌, ℕ, ◌≤◌, List, length, take, Ok, Err, Result}
+use Rattle.std.specs.Prelude.{◌≡◌, ℕ, List, Ok, Err, Result}
+use Rattle.std.specs.Borrow.{Bor}
 use Rattle.reader.specs.declared.fault.ReadFault.{ReadFault}
 use Rattle.reader.specs.declared.notes.Firsts.{Firsts}
 use Rattle.reader.specs.declared.read.Survey.{Survey}
@@ -13,25 +14,10 @@ pub record Surveyed (asked : ℕ) (ns : List (Note × ℕ)) (f : Firsts) : Type 
   pub missing : f.missing ≡ first_where is_undeclared ns
   pub mention : f.mention ≡ first_where (names_unit asked) ns
 
--- a text that reads is never refused
-abbrev pub SurveyOf : ℕ → List (Note × ℕ) → Result Firsts ReadFault → Type 0
-SurveyOf asked ns (Ok f) = Surveyed asked ns f
+-- a text that reads is never refused, and the places are those of the heads that name units
+abbrev pub SurveyOf : ℕ → List (Note × ℕ) → Result (Firsts × Bor (List ℕ)) ReadFault → Type 0
+SurveyOf asked ns (Ok x) = Surveyed asked ns x.0 × (x.1.now ≡ unit_places ns)
 SurveyOf asked ns (Err e) = ⊥
-
--- so many places are those of the heads that name units
-pub record Listed (ns : List (Note × ℕ)) (count : ℕ) (places : List ℕ) : Type 0 where
-  pub heads : take count places ≡ unit_places ns
-  pub few : count ≤ length places
-
--- the same of an answer; a text that reads is never refused
-abbrev pub ListingOf : List (Note × ℕ) → Result (Firsts × ℕ) ReadFault → List ℕ → Type 0
-ListingOf ns (Ok x) places = Listed ns x.1 places
-ListingOf ns (Err e) places = ⊥
-
--- the first places alone
-abbrev pub firsts_alone : Result (Firsts × ℕ) ReadFault → Result Firsts ReadFault
-firsts_alone (Ok x) = Ok x.0
-firsts_alone (Err e) = Err e
 
 -- the rank alone of what is learned of a text
 abbrev pub ranked : Result Survey ReadFault → Result ℕ ReadFault

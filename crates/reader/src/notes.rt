@@ -1,8 +1,8 @@
 // What a token is told in the second pass: how many are open at it, whether it declares a name again, whether it is a head
 // that is not declared; and what it enters into the scope.
-ghost use Rattle.std.specs.Prelude.{◌≡◌, ℕ, ◌+◌, ◌*◌, ◌^◌, ◌<◌, ◌≤◌, ◌&&◌, List, length, take, nat_le, nat_lt};
+ghost use Rattle.std.specs.Prelude.{◌≡◌, ◌+◌, ◌^◌, ◌<◌, ◌≤◌, ◌&&◌, [], length, take, nat_le, nat_lt};
 ghost use Rattle.reader.specs.Annotate.{around, extra, raised, declaring, again_of, head_kind, head_of, is_missing, is_unit, is_lower, is_upper};
-ghost use Rattle.reader.specs.Firsts.{first_of, listed, span_of, EnteredRow, ask_firsts, answered};
+ghost use Rattle.reader.specs.Firsts.{first_of, listed, Listing, span_of, ask_firsts, answered};
 ghost use Rattle.reader.specs.Frames.{placed, attr_of};
 ghost use Rattle.reader.specs.Rows.{entries_of};
 
@@ -10,9 +10,10 @@ use super::attributes::{declared_sort, extra_open, head_kind, is_outside};
 use super::class::Class;
 use super::fault::ReadFault;
 use super::frame::{Frame, Place};
-use super::row::{Scope, append};
+use super::row::Scope;
 use super::scope::{Binder, PathHead, Sort};
 use super::symbol::Symbol;
+use std::marker::Model;
 
 // What surrounds a token that is read for a symbol. Constant time.
 pub fn place_of(symbol: Symbol, class: Class, frame: Frame) -> Place
@@ -25,14 +26,13 @@ pub fn place_of(symbol: Symbol, class: Class, frame: Frame) -> Place
     }
 }
 
-// How many are open at a token. Constant time.
-pub fn opened_at(symbol: Symbol, class: Class, place: Place) -> u32
-    requires { place.opened + 2 < 2 ^ 32 }
-    ensures { result ≡ raised (extra symbol class) place.opened }
+// Whether too much is open at a token. Constant time.
+fn is_too_deep(symbol: Symbol, class: Class, place: Place) -> bool
+    ensures { result ≡ nat_lt 12 (raised (extra symbol class) place.opened) }
 {
     match extra_open(symbol, class) {
-        Some(n) => place.opened + n,
-        None => place.opened,
+        Some(n) => OPEN_LIMIT < place.opened.saturating_add(n),
+        None => OPEN_LIMIT < place.opened,
     }
 }
 
@@ -70,7 +70,6 @@ fn undeclared(scope: Scope<'_>, symbol: Symbol, class: Class, name: &[u8]) -> Op
 
 // What a token is told. Linear in what is declared around it.
 pub fn note_of(scope: Scope<'_>, place: Place, symbol: Symbol, class: Class, name: &[u8]) -> Note
-    requires { place.opened + 2 < 2 ^ 32 }
     ensures deep { result.deep ≡ nat_lt 12 (raised (extra symbol class) place.opened) }
     ensures again { result.again ≡ again_of (declaring symbol) name.now (entries_of scope.entry) }
     ensures missing { result.missing ≡ is_missing (head_of (head_kind symbol class) name.now (entries_of scope.entry)) }
@@ -78,7 +77,7 @@ pub fn note_of(scope: Scope<'_>, place: Place, symbol: Symbol, class: Class, nam
 {
     let undeclared = undeclared(scope, symbol, class, name);
     Note {
-        deep: OPEN_LIMIT < opened_at(symbol, class, place),
+        deep: is_too_deep(symbol, class, place),
         again: is_redeclared(scope, symbol, name),
         missing: matches!(undeclared, Some(PathHead::Lower(_))),
         unit: matches!(undeclared, Some(PathHead::Upper)),
@@ -99,42 +98,6 @@ pub fn span(class: Class, place: usize, end: usize) -> (usize, usize)
     match class {
         Class::Lower | Class::Upper => (place, end),
         _ => (0, 0),
-    }
-}
-
-// The scope behind a token, and how many entries there are now.
-#[derive(Clone, Copy, PartialEq, Eq, Debug)]
-pub struct Entered {
-    pub scope: u32,
-    pub count: u32,
-}
-
-// Enters what a token introduces, if it introduces anything. Constant time.
-pub fn enter(
-    row: &mut [u32],
-    count: u32,
-    binder: Option<Binder>,
-    parent: u32,
-    from: u32,
-    end: u32,
-) -> Entered
-    requires count_in_bounds { 4 * count + 4 ≤ length row.old }
-    requires count_bound { count + 1 < 2 ^ 32 }
-    requires parent_le_count { parent ≤ count }
-    ensures { EnteredRow row.old row.new count binder parent from end result.scope result.count }
-{
-    match binder {
-        Some(b) => {
-            let number = append(row, count, b, parent, from, end);
-            Entered {
-                scope: number,
-                count: number,
-            }
-        }
-        None => Entered {
-            scope: parent,
-            count,
-        },
     }
 }
 
@@ -181,17 +144,46 @@ impl Firsts {
     }
 }
 
-// Lists a place behind so many, if it is wanted, and tells how many are listed then. Constant time.
-pub(crate) fn list_place(places: &mut [u32], count: usize, wanted: bool, place: usize) -> usize
-    requires count_in_bounds { count < length places.old }
-    requires place_bound { place < 2 ^ 32 }
-    ensures places { take result places.new ≡ listed (take count places.old) wanted place }
-    ensures few { result ≤ count + 1 }
-{
-    if wanted {
-        places[count] = place as u32;
-        count + 1
-    } else {
-        count
+// The places of heads that name units, listed in lent words.
+#[derive(Drop)]
+pub struct Heads<'s> {
+    words: &'s mut [u32],
+    count: usize,
+}
+
+impl<'s> Model for Heads<'s> {
+    ghost Value = { Listing };
+
+    ghost view = { λ h. record { places = take h.count h.words.now; room = length h.words.now } };
+
+    ghost invariant = { λ h. h.count ≤ length h.words.now };
+}
+
+impl<'s> Heads<'s> {
+    // No places.
+    pub fn new(words: &'s mut [u32]) -> Heads<'s>
+        ensures { result ≡ record { places = []; room = length words.old } }
+    {
+        Heads { words, count: 0 }
+    }
+
+    // Lists a place behind the others, if it is wanted. Constant time.
+    pub fn list(&mut self, wanted: bool, place: usize)
+        requires count_in_bounds { length self.old.places < self.old.room }
+        requires place_bound { place < 2 ^ 32 }
+        ensures { self.new ≡ record { places = listed self.old.places wanted place; room = self.old.room } }
+    {
+        if wanted {
+            self.words[self.count] = place as u32;
+            self.count += 1;
+        }
+    }
+
+    // The places that are listed. Constant time.
+    pub fn into_places(self) -> &'s [u32]
+        ensures { result.now ≡ self.entry.places }
+    {
+        let Heads { words, count } = self;
+        &words[..count]
     }
 }

@@ -24,12 +24,6 @@ use tokens::token::Token;
 // The words of scratch that reading is lent.
 pub const SCRATCH_WORDS: usize = 65_536;
 
-// Of those the words for frames, and the words for scopes: four for each entry, and at most one entry for each byte. The rest is
-// for the places of heads.
-const FRAME_WORDS: usize = 32_768;
-
-const ROW_WORDS: usize = 16_384;
-
 // The most bytes of a text.
 pub const TEXT_LIMIT: usize = 4_000;
 
@@ -99,13 +93,11 @@ fn survey_of<'s, C: Core>(
         return Err(ReadFault::TooLong);
     }
     let rank = parse(core, text, scratch, start)?;
-    let (frames, rest) = scratch.split_at_mut(FRAME_WORDS);
-    let (row, places) = rest.split_at_mut(ROW_WORDS);
-    let (firsts, count) = go_through(core, text, frames, row, places, start, from)?;
+    let (firsts, heads) = go_through(core, text, scratch, start, from)?;
     Ok(Survey {
         rank,
         firsts,
-        heads: &places[..count],
+        heads,
     })
 }
 

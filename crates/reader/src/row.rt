@@ -1,10 +1,12 @@
 // Scopes in lent words: a row of entries of four words, each with the number of the entry around it.
 ghost use Rattle.std.specs.Prelude.{◌≡◌, ◌+◌, ◌*◌, ◌^◌, ◌<◌, ◌≤◌, length, slice_index};
+ghost use Rattle.reader.specs.Firsts.{EnteredRow};
 ghost use Rattle.reader.specs.Frames.{four_at};
 ghost use Rattle.reader.specs.Scopes.{is_declared, seek, is_component, is_sought};
-ghost use Rattle.reader.specs.Rows.{binder_number, part_of, entry_at, parent_at, scope_of, is_nowhere, binding_of};
+ghost use Rattle.reader.specs.Rows.{binder_number, part_of, entry_at, parent_at, scope_of, is_nowhere, binding_of, entries_of, Entered};
 
 use super::scope::{Binder, Sort};
+use std::marker::Model;
 
 // A word of a row; 0 behind its end. Constant time.
 fn word_at(row: &[u32], i: usize) -> u32
@@ -85,7 +87,6 @@ pub struct Scope<'a> {
 
 impl<'a> Iterator for Scope<'a> {
     ghost use Rattle.std.specs.Iterator.{YieldsFirstBy, item_count};
-    ghost use Rattle.reader.specs.Rows.{binding_of, entries_of};
 
     type Item = Entry<'a>;
 
@@ -101,8 +102,6 @@ impl<'a> Iterator for Scope<'a> {
 }
 
 impl Scope<'_> {
-    ghost use Rattle.reader.specs.Rows.{entries_of};
-
     // Whether a sort and name is declared already in the innermost structure or signature. Linear in what it has declared.
     pub fn is_declared(self, sort: Sort, name: &[u8]) -> bool
         ensures { result ≡ is_declared sort name.now (entries_of self.entry) }
@@ -120,16 +119,66 @@ impl Scope<'_> {
 }
 
 // Adds an entry behind so many, and tells its number. Constant time.
-pub fn append(row: &mut [u32], count: u32, binder: Binder, parent: u32, from: u32, end: u32) -> u32
-    requires count_in_bounds { 4 * count + 4 ≤ length row.old }
+fn append(words: &mut [u32], count: u32, binder: Binder, parent: u32, from: u32, end: u32) -> u32
+    requires count_in_bounds { 4 * count + 4 ≤ length words.old }
     requires count_bound { count + 1 < 2 ^ 32 }
     ensures number { result ≡ count + 1 }
-    ensures row { row.new ≡ four_at row.old count (binder_number binder) parent from end }
+    ensures row { words.new ≡ four_at words.old count (binder_number binder) parent from end }
 {
     let i = 4 * count as usize;
-    row[i] = u32::from(binder);
-    row[i + 1] = parent;
-    row[i + 2] = from;
-    row[i + 3] = end;
+    words[i] = u32::from(binder);
+    words[i + 1] = parent;
+    words[i + 2] = from;
+    words[i + 3] = end;
     count + 1
+}
+
+// The entries made so far, in lent words.
+#[derive(Drop)]
+pub struct Entries<'s> {
+    words: &'s mut [u32],
+    count: u32,
+}
+
+impl<'s> Model for Entries<'s> {
+    ghost Value = { Entered };
+
+    ghost view = { λ e. record { words = e.words.now; count = e.count } };
+}
+
+impl<'s> Entries<'s> {
+    // No entries.
+    pub fn new(words: &'s mut [u32]) -> Entries<'s>
+        ensures { result ≡ record { words = words.old; count = 0 } }
+    {
+        Entries { words, count: 0 }
+    }
+
+    // What is declared where an entry of a number is the innermost. Constant time.
+    pub fn scope<'a>(&'a self, text: &'a [u8], number: u32) -> Scope<'a>
+        ensures { entries_of result ≡ scope_of self.now.words text.now number }
+    {
+        Scope {
+            row: self.words,
+            text,
+            number,
+        }
+    }
+
+    // Enters what a token introduces, if it introduces anything, and tells the number of the innermost entry then. Constant time.
+    pub fn enter(&mut self, binder: Option<Binder>, parent: u32, from: u32, end: u32) -> u32
+        requires count_in_bounds { 4 * self.old.count + 4 ≤ length self.old.words }
+        requires count_bound { self.old.count + 1 < 2 ^ 32 }
+        requires parent_le_count { parent ≤ self.old.count }
+        ensures entered { EnteredRow self.old.words self.new.words self.old.count binder parent from end result self.new.count }
+        ensures room { length self.new.words ≡ length self.old.words }
+    {
+        match binder {
+            Some(b) => {
+                self.count = append(self.words, self.count, b, parent, from, end);
+                self.count
+            }
+            None => parent,
+        }
+    }
 }

@@ -1,8 +1,7 @@
 // The second pass over a text that reads: the questions about what is open and what is declared.
 ghost use Rattle.std.specs.Prelude.{◌≡◌, ◌≤◌, true, length};
-ghost use Rattle.reader.specs.Firsts.{root_attrs, text_notes};
-ghost use Rattle.reader.specs.Frames.{symbols_of, attrs_of};
-ghost use Rattle.reader.specs.Surveys.{SurveyOf, ListingOf, firsts_alone};
+ghost use Rattle.reader.specs.Firsts.{text_notes};
+ghost use Rattle.reader.specs.Surveys.{SurveyOf};
 ghost use Rattle.reader.specs.Parsing.{start_of, is_accepted};
 ghost use Rattle.reader.specs.Reading.{reads, default_rank};
 ghost use Rattle.reader.specs.Streams.{stream_of};
@@ -11,102 +10,67 @@ use super::attributes::{introduced, rules_of};
 use super::class::Class;
 use super::classify::class_of;
 use super::fault::ReadFault;
-use super::frame::{Frame, Place, frame_at, push_frames, symbol_at};
-use super::notes::{Firsts, enter, list_place, note_of, place_of, span};
+use super::frame::{Frames, OUTERMOST, Origin};
+use super::notes::{Firsts, Heads, note_of, place_of, span};
 use super::parse::Start;
-use super::row::{Scope, part};
+use super::row::{Entries, part};
 use super::table::expand;
 use cores::interface::Core;
-use tokens::lexer::next;
+use tokens::lexer::Tokens;
 
-// Pushes the frames of what is to be read, and tells how many they are. Constant time.
-fn begin(frames: &mut [u32], start: Start) -> usize
-    requires { length frames.old ≡ 32_768 }
-    ensures symbols { symbols_of frames.new result ≡ start_of start }
-    ensures attrs { attrs_of frames.new result ≡ root_attrs (start_of start) }
-{
-    let outermost = Place {
-        opened: 0,
-        scope: 0,
-    };
-    let whole = Frame {
-        inner: outermost,
-        outer: outermost,
-    };
-    push_frames(frames, 0, start.symbols(), &[], whole, outermost, 0)
-}
+// The words for frames, and those for scopes: four for each entry, and at most one entry for each byte. The rest is for the places
+// of heads.
+const FRAME_WORDS: usize = 32_768;
+
+const ROW_WORDS: usize = 16_384;
 
 // Goes through a text that reads, and tells the first places where too much is open, where a name is declared again, where a lower
-// head is not declared, and where, at or behind a place, a head names a unit; lists the places of all heads that name units, and
-// tells how many they are. Linear in the text times what is declared around its names.
-pub fn go_through<C: Core>(
+// head is not declared, and where, at or behind a place, a head names a unit; and the places of all heads that name units.
+// Linear in the text times what is declared around its names.
+pub fn go_through<'s, C: Core>(
     core: &C,
     text: &[u8],
-    frames: &mut [u32],
-    row: &mut [u32],
-    places: &mut [u32],
+    scratch: &'s mut [u32],
     start: Start,
     asked: usize,
-) -> Result<(Firsts, usize), ReadFault>
+) -> Result<(Firsts, &'s [u32]), ReadFault>
     requires text_len_bound { length text.now ≤ 4_000 }
-    requires frames_len { length frames.old ≡ 32_768 }
-    requires row_len { length row.old ≡ 16_384 }
-    requires places_len { length places.old ≡ 16_384 }
+    requires scratch_len { length scratch.old ≡ 65_536 }
     requires accepted { is_accepted (reads (start_of start) (stream_of C.Core.words text.now) default_rank) ≡ true }
-    ensures firsts { SurveyOf asked (text_notes start C.Core.words text.now) (firsts_alone result) }
-    ensures heads { ListingOf (text_notes start C.Core.words text.now) result places.new }
+    ensures { SurveyOf asked (text_notes start C.Core.words text.now) result }
 {
-    let mut depth = begin(frames, start);
-    let mut count = 0;
-    let mut heads = 0;
+    let (words, rest) = scratch.split_at_mut(FRAME_WORDS);
+    let (row, places) = rest.split_at_mut(ROW_WORDS);
+    let mut frames = Frames::new(words);
+    frames.push_all(start.symbols(), &[], OUTERMOST);
+    let mut entries = Entries::new(row);
+    let mut heads = Heads::new(places);
     let mut firsts = Firsts::default();
-    let mut from = 0;
-    'tokens: while let Some(found) = next(text, from)? {
-        let symbol = symbol_at(frames, depth - 1);
+    'tokens: for found in Tokens::new(text) {
+        let found = found?;
+        let (symbol, frame) = frames.pop();
         let class = class_of(core, found.token);
         let Some(after) = expand(symbol, class) else {
             return Err(ReadFault::Syntax(found.place));
         };
-        let frame = frame_at(frames, depth - 1);
         let place = place_of(symbol, class, frame);
-        let name = span(class, found.place, found.end);
-        let spelled = part(text, name.0, name.1);
-        let scope = Scope {
-            row,
-            text,
-            number: place.scope,
-        };
-        let note = note_of(scope, place, symbol, class, spelled);
+        let (from, end) = span(class, found.place, found.end);
+        let scope = entries.scope(text, place.scope);
+        let note = note_of(scope, place, symbol, class, part(text, from, end));
         firsts = firsts.after(note, found.place, asked);
-        heads = list_place(places, heads, note.unit, found.place);
-        let entered = enter(
-            row,
-            count,
+        heads.list(note.unit, found.place);
+        let new = entries.enter(
             introduced(symbol, class),
             place.scope,
-            name.0 as u32,
-            name.1 as u32,
+            from as u32,
+            end as u32,
         );
-        count = entered.count;
-        depth = push_frames(
-            frames,
-            depth - 1,
-            &after,
-            rules_of(symbol, class),
-            frame,
-            place,
-            entered.scope,
-        );
-        from = found.end;
+        let origin = Origin { frame, place, new };
+        frames.push_all(&after, rules_of(symbol, class), origin);
     }
-    let last = symbol_at(frames, depth - 1);
-    let place = place_of(last, Class::TextEnd, frame_at(frames, depth - 1));
-    let scope = Scope {
-        row,
-        text,
-        number: place.scope,
-    };
+    let (last, frame) = frames.pop();
+    let place = place_of(last, Class::TextEnd, frame);
+    let scope = entries.scope(text, place.scope);
     let note = note_of(scope, place, last, Class::TextEnd, &[]);
-    let told = firsts.after(note, text.len(), asked);
-    Ok((told, heads))
+    Ok((firsts.after(note, text.len(), asked), heads.into_places()))
 }
