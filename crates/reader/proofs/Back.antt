@@ -1,5 +1,5 @@
 -- What a tree writes is read back.
-use Rattle.std.proofs.Common.{◌≡◌, ℕ, List, [], ◌∷◌, ◌++◌, Some, None, Option, sym, refl, ap, ◌∙◌, subst, arith}
+use Rattle.std.proofs.Common.{◌≡◌, ℕ, List, [], ◌∷◌, ◌++◌, Some, None, Option, sym, refl, ap, ◌∙◌, subst}
 use Rattle.reader.specs.Tokens.{Token, text_end}
 use Rattle.reader.specs.Streams.{Stream, finish, broken, next, in_front, tokens_in}
 use Rattle.reader.specs.Syntax.{UnitTree, SignatureTree}
@@ -7,11 +7,8 @@ use Rattle.reader.specs.Print.{print_unit, print_signature_text}
 use Rattle.reader.specs.Reading.{Outcome, accepted, refused, reads, unit_start, signature_start, default_rank, rank_of, Begins, StandsAt, NeverGoesOn, FirstRefused, UnitOutcome, SignatureOutcome, PrintsAreRead}
 use Rattle.reader.proofs.Laws.{units_are_read, signatures_are_read, one_tree}
 
-clash : {X : Type 0} → ◌≡◌ {A = ℕ} 0 1 → X
-clash z = absurd (omega arith)
-
 behind : (k : Token) (o : Option (List Token)) (ks : List Token) → in_front k o ≡ Some ks → (rest : List Token) × (o ≡ Some rest) × (ks ≡ k ∷ rest)
-behind k None ks e = clash (cc)
+behind k None ks e = cc
 behind k (Some rest) ks e = (rest, refl, cc)
 
 -- what stands behind the first tokens of a whole text is one of its tokens
@@ -20,7 +17,7 @@ stands_begins : (s : Stream) (before : List Token) (bad : Option Token) (place :
 stands_begins (finish p) before bad place ks e h =
     let all : text_end ∷ [] ≡ ks = cc in
     (text_end, h.1, ([], ap (λ (b : List Token). (b ++ text_end ∷ []) ++ []) h.0 ∙ all))
-stands_begins (broken p) before bad place ks e h = clash (cc)
+stands_begins (broken p) before bad place ks e h = cc
 stands_begins (next k p s) [] bad place ks e h =
     let b = behind k (tokens_in s) ks e in (k, h.0, (b.0, sym b.2))
 stands_begins (next k p s) (x ∷ before) bad place ks e h =

@@ -1,5 +1,5 @@
 -- The alternative that a token chooses, and the entry that each tree comes from.
-use Rattle.std.proofs.Common.{◌≡◌, ℕ, Bool, true, false, cond, eqb, List, [], ◌∷◌, map, Some, None, Option, sym, refl, ap, ◌∙◌, subst, arith}
+use Rattle.std.proofs.Common.{◌≡◌, Bool, true, false, cond, eqb, List, [], ◌∷◌, map, Some, None, Option, refl, ap, ◌∙◌, subst}
 use Rattle.reader.specs.declared.class.Class.{Class}
 use Rattle.reader.specs.declared.symbol.Symbol.{Symbol}
 use Rattle.reader.specs.Tokens.{Token, class_of}
@@ -50,9 +50,6 @@ abbrev Picked : {s : Symbol} (k : Token) (es : List (Entry s)) (t : Tree s) → 
 Picked {s} k es t =
     (a : Alternative s k) × (pick k es ≡ Some a) × (ts : Trees a.after) × (a.make ts ≡ t)
 
-false_true : false ≡ true → ⊥
-false_true e = let z : ◌≡◌ {A = ℕ} 0 1 = cc in omega arith
-
 picked_here :
     {s : Symbol} (e : Entry s) (es : List (Entry s)) (l : Load e.first) (ts : Trees e.after) (b : Bool)
     (h : same (class_of (whole e.first l)) e.first ≡ b) → b ≡ true →
@@ -66,12 +63,12 @@ picked_here e es l ts true h t =
       ts,
       ap (λ (x : Load e.first). e.make x ts) (whole_injective e.first g.0 l g.1),
     )
-picked_here e es l ts false h t = absurd (false_true t)
+picked_here e es l ts false h t = cc
 
 skip :
     {s : Symbol} (x : Entry s) (k : Token) (b : Bool) (h : same (class_of k) x.first ≡ b) (o : Option (Alternative s k)) →
     b ≡ false → pick_one x k b h o ≡ o
-skip x k true h o f = absurd (false_true (sym f))
+skip x k true h o f = cc
 skip x k false h o f = refl
 
 class_of_whole : (c d : Class) (l : Load c) → same (class_of (whole c l)) d ≡ same c d

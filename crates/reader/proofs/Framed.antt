@@ -7,7 +7,7 @@ use Rattle.reader.specs.Codes.{symbol_at, symbol_number}
 use Rattle.reader.specs.Notes.{Around}
 use Rattle.reader.specs.Annotate.{Attr, inherit, inherits}
 use Rattle.reader.specs.Frames.{Framed, framed, attr_at, symbol_kept, symbols_of, attrs_of, five_at}
-use Rattle.reader.proofs.StackWords.{symbol_back}
+use Rattle.reader.proofs.AllSymbols.{symbol_back}
 
 -- a set does not reach another place
 other : (w : List ℕ) (i j v : ℕ) → j ≢ i → get_or (set w i v) j 0 ≡ get_or w j 0

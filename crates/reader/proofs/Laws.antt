@@ -1,5 +1,6 @@
 -- Reading is what the grammar says: the laws of the reader over streams of tokens.
-use Rattle.std.proofs.Common.{◌≡◌, ℕ, Bool, true, false, cond, List, [], ◌∷◌, ◌++◌, Some, None, Option, sym, refl, ap, ◌∙◌, subst, append_assoc, arith}
+use Rattle.std.proofs.Common.{◌≡◌, ℕ, Bool, true, false, cond, List, [], ◌∷◌, ◌++◌, Some, None, Option, sym, refl, ap, ◌∙◌, subst, append_assoc}
+use Rattle.std.proofs.lemmas.List.{append-nil}
 use Rattle.tokens.specs.Integers.{decimal}
 use Rattle.tokens.specs.declared.token.Mark.{Mark}
 use Rattle.reader.specs.declared.class.Class.{Class}
@@ -119,13 +120,10 @@ describe_next t σ k p r s h ih (Some α) e =
         (sym (gets_empty t σ (class_of k) α h e n)) (describe_empty s (learn t k r))
     rest false n = ih (α ++ σ) (learn t k r) (stays_sealed t σ (class_of k) α h e n)
 
-false_true : false ≡ true → ⊥
-false_true e = let z : ◌≡◌ {A = ℕ} 0 1 = cc in omega arith
-
 pub describe : (s : Stream) (σ : List Symbol) (r : ℕ) → sealed σ ≡ true → Described σ s r (reads σ s r)
-describe (finish p) [] r h = absurd (false_true h)
-describe (broken p) [] r h = absurd (false_true h)
-describe (next k p s) [] r h = absurd (false_true h)
+describe (finish p) [] r h = cc
+describe (broken p) [] r h = cc
+describe (next k p s) [] r h = cc
 describe (finish p) (t ∷ σ) r h = describe_finish t σ p r h (expand t Class.TextEnd) refl
 describe (broken p) (t ∷ σ) r h = ([], None, (refl, refl, refl), (t ∷ σ, refl), tt)
 describe (next k p s) (t ∷ σ) r h =
@@ -136,13 +134,6 @@ describe (next k p s) (t ∷ σ) r h =
 some_trees : (σ : List Symbol) → Trees σ
 some_trees [] = tt
 some_trees (s ∷ σ) = (some_tree s, some_trees σ)
-
-append_nil : (ts : List Token) → ts ++ [] ≡ ts
-append_nil [] = refl
-append_nil (t ∷ ts) = ap (λ (x : List Token). t ∷ x) (append_nil ts)
-
-none_some : {X : Type 0} {x : X} → None ≡ Some x → ⊥
-none_some e = let z : ◌≡◌ {A = ℕ} 0 1 = cc in omega arith
 
 -- tokens that were read begin the print of some trees
 goes_on_lem :
@@ -157,7 +148,7 @@ never :
     (σ : List Symbol) (ts : List Token) → run σ ts ≡ None → (vs : Trees σ) → Begins ts (prints σ vs []) → ⊥
 never σ ts e vs b =
     let h = theory.complete Token Symbol Tree print choose from ts σ vs b.0 (sym b.1) in
-    none_some (sym e ∙ h.1)
+    cc (e, h.1)
 
 never_goes_on :
     {T : Type 0} (show : T → List Token) (σ : List Symbol) (trees : T → Trees σ) →
@@ -186,7 +177,7 @@ whole_print :
     (σ : List Symbol) (ts : List Token) → run σ ts ≡ Some [] → (vs : Trees σ) × (ts ≡ prints σ vs [])
 whole_print σ ts e =
     let h = theory.sound Token Symbol Tree print choose ts σ [] e tt [] in
-    (h.0, sym (append_nil ts) ∙ sym h.1)
+    (h.0, sym (append-nil ts) ∙ sym h.1)
 
 -- ---- the rank
 
@@ -240,9 +231,6 @@ unit_rank u =
     (u.items, tt) (print_rank u.rank (text_end ∷ [])) default_rank (refl, tt) refl
     ∙ rank_end u.rank
 
-some_some : {X : Type 0} {x y : X} → Some x ≡ Some y → x ≡ y
-some_some e = cc
-
 -- ---- the laws
 
 unit_law : (s : Stream) (o : Outcome) → Described unit_start s default_rank o → UnitOutcome s o
@@ -250,7 +238,7 @@ unit_law s (accepted n) d =
     let w = whole_print unit_start d.0 d.2 in (
       w.0.0,
       d.1 ∙ ap Some w.1,
-      some_some (sym d.3 ∙ ap (λ (x : List Token). rank_run unit_start x default_rank) w.1 ∙ unit_rank w.0.0),
+      cc (sym d.3 ∙ ap (λ (x : List Token). rank_run unit_start x default_rank) w.1 ∙ unit_rank w.0.0),
     )
 unit_law s (refused p) d =
     first_refused print_unit unit_start (λ vs. vs.0) (λ u. (u, tt)) (λ vs. refl) (λ u. refl) s default_rank p d

@@ -4,6 +4,7 @@ mod Shapes
 mod Entries
 mod Choosing
 mod Origins
+mod AllSymbols
 mod Checks
 mod Laws
 mod Back

@@ -1,87 +1,9 @@
 -- Stacks of symbols in words: what a push and a pop leave.
-use Rattle.std.proofs.Common.{◌≡◌, ℕ, zero, suc, ◌+◌, ◌<◌, ◌≤◌, true, false, ◌≢◌, List, ◌∷◌, length, get_or, set, refl, ap, ◌∙◌, add-one, arith, get_or-set_other, get_or-set_same, length-set}
-use Rattle.reader.specs.declared.class.Class.{Class}
+use Rattle.std.proofs.Common.{◌≡◌, ℕ, zero, suc, ◌+◌, ◌<◌, ◌≤◌, ◌≢◌, List, ◌∷◌, length, get_or, set, refl, ap, ◌∙◌, add-one, arith, get_or-set_other, get_or-set_same, length-set}
 use Rattle.reader.specs.declared.symbol.Symbol.{Symbol}
-use Rattle.reader.specs.declared.symbol.TypeContext.{TypeContext}
-use Rattle.reader.specs.declared.symbol.ModuleContext.{ModuleContext}
 use Rattle.reader.specs.Codes.{symbol_at, symbol_number}
 use Rattle.reader.specs.Stacks.{Stacked, stack_of, stacked}
-
--- a symbol is known by its number
-pub symbol_back : (s : Symbol) → symbol_at (symbol_number s) ≡ s
-symbol_back (Symbol.Token Class.Open) = refl
-symbol_back (Symbol.Token Class.Close) = refl
-symbol_back (Symbol.Token Class.Colon) = refl
-symbol_back (Symbol.Token Class.Equals) = refl
-symbol_back (Symbol.Token Class.Comma) = refl
-symbol_back (Symbol.Token Class.Dot) = refl
-symbol_back (Symbol.Token Class.Arrow) = refl
-symbol_back (Symbol.Token Class.OpenAttribute) = refl
-symbol_back (Symbol.Token Class.CloseAttribute) = refl
-symbol_back (Symbol.Token Class.Module) = refl
-symbol_back (Symbol.Token Class.Struct) = refl
-symbol_back (Symbol.Token Class.Sig) = refl
-symbol_back (Symbol.Token Class.End) = refl
-symbol_back (Symbol.Token Class.Functor) = refl
-symbol_back (Symbol.Token Class.«Type») = refl
-symbol_back (Symbol.Token Class.Val) = refl
-symbol_back (Symbol.Token Class.Let) = refl
-symbol_back (Symbol.Token Class.Fun) = refl
-symbol_back (Symbol.Token Class.Rank) = refl
-symbol_back (Symbol.Token Class.Lower) = refl
-symbol_back (Symbol.Token Class.Upper) = refl
-symbol_back (Symbol.Token Class.SmallInteger) = refl
-symbol_back (Symbol.Token Class.LargeInteger) = refl
-symbol_back (Symbol.Token Class.Label0) = refl
-symbol_back (Symbol.Token Class.Label1) = refl
-symbol_back (Symbol.Token Class.Label2) = refl
-symbol_back (Symbol.Token Class.Operator0) = refl
-symbol_back (Symbol.Token Class.Operator1) = refl
-symbol_back (Symbol.Token Class.Operator2) = refl
-symbol_back (Symbol.Token Class.Operator3) = refl
-symbol_back (Symbol.Token Class.TextEnd) = refl
-symbol_back Symbol.«Unit» = refl
-symbol_back Symbol.UnitName = refl
-symbol_back Symbol.UnitEnd = refl
-symbol_back Symbol.RankValue = refl
-symbol_back Symbol.Items = refl
-symbol_back Symbol.TypeItem = refl
-symbol_back Symbol.ValueItem = refl
-symbol_back Symbol.ModuleItem = refl
-symbol_back (Symbol.Module ModuleContext.Items) = refl
-symbol_back (Symbol.Module ModuleContext.Bracketed) = refl
-symbol_back (Symbol.Parameter ModuleContext.Items) = refl
-symbol_back (Symbol.Parameter ModuleContext.Bracketed) = refl
-symbol_back (Symbol.«Path» ModuleContext.Items) = refl
-symbol_back (Symbol.«Path» ModuleContext.Bracketed) = refl
-symbol_back (Symbol.PathName ModuleContext.Items) = refl
-symbol_back (Symbol.PathName ModuleContext.Bracketed) = refl
-symbol_back (Symbol.Arguments ModuleContext.Items) = refl
-symbol_back (Symbol.Arguments ModuleContext.Bracketed) = refl
-symbol_back Symbol.ModuleEnd = refl
-symbol_back Symbol.Argument = refl
-symbol_back Symbol.ArgumentEnd = refl
-symbol_back Symbol.Signature = refl
-symbol_back Symbol.SignatureParameter = refl
-symbol_back Symbol.Specs = refl
-symbol_back Symbol.TypeSpec = refl
-symbol_back Symbol.TypeSpecEnd = refl
-symbol_back Symbol.ValueSpec = refl
-symbol_back Symbol.ModuleSpec = refl
-symbol_back Symbol.Term = refl
-symbol_back Symbol.Variable = refl
-symbol_back Symbol.Atom = refl
-symbol_back Symbol.PathEnd = refl
-symbol_back (Symbol.«Type» TypeContext.Items) = refl
-symbol_back (Symbol.«Type» TypeContext.Specs) = refl
-symbol_back (Symbol.«Type» TypeContext.Closed) = refl
-symbol_back (Symbol.«Type» TypeContext.Bracketed) = refl
-symbol_back (Symbol.Labels TypeContext.Items) = refl
-symbol_back (Symbol.Labels TypeContext.Specs) = refl
-symbol_back (Symbol.Labels TypeContext.Closed) = refl
-symbol_back (Symbol.Labels TypeContext.Bracketed) = refl
-symbol_back Symbol.TypeEnd = refl
-symbol_back Symbol.ArgumentName = refl
+use Rattle.reader.proofs.AllSymbols.{symbol_back}
 
 -- a write above leaves the stack
 pub stack_below : (w : List ℕ) (n v m : ℕ) → m ≤ n → stack_of (set w n v) m ≡ stack_of w m
@@ -118,6 +40,3 @@ put w n v s x e h is =
     ∙ ap (λ (y : Stacked). s ∷ y.symbols) e in
     let room = length-set w n x ∙ ap (λ (y : Stacked). y.room) e in
     λ i. record { symbols = top i; room = room i }
-
-pub false_true : false ≡ true → ⊥
-false_true e = let z : ◌≡◌ {A = ℕ} 0 1 = cc in omega arith

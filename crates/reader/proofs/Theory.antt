@@ -75,9 +75,6 @@ module _ (Tok Sym : Type 0) (Tree : Sym → Type 0) (print : (s : Sym) → Tree 
     run [] (k ∷ ks) = None
     run (s ∷ σ) (k ∷ ks) = onward (afters (choose s k)) σ (λ τ. run τ ks)
 
-    pub none_some : {X : Type 0} {x : X} → None ≡ Some x → ⊥
-    none_some e = let z : ◌≡◌ {A = ℕ} 0 1 = cc in omega arith
-
     -- What was read is the beginning of a print, however the stack that is left is completed.
     abbrev pub Completes : List Sym → List Tok → List Sym → Type 0
     Completes σ ts τ = (us : Trees τ) (rest : List Tok) → (vs : Trees σ) × (prints σ vs rest ≡ ts ++ prints τ us rest)
@@ -89,7 +86,7 @@ module _ (Tok Sym : Type 0) (Tree : Sym → Type 0) (print : (s : Sym) → Tree 
         (s : Sym) (σ τ : List Sym) (k : Tok) (ks : List Tok) (o : Option (Alternative s k)) →
         ((ρ : List Sym) → run ρ ks ≡ Some τ → Completes ρ ks τ) →
         onward (afters o) σ (λ ρ. run ρ ks) ≡ Some τ → Completes (s ∷ σ) (k ∷ ks) τ
-    step_sound s σ τ k ks None ih e us rest = absurd (none_some e)
+    step_sound s σ τ k ks None ih e us rest = cc
     step_sound s σ τ k ks (Some a) ih e us rest =
         let h = ih (a.after ++ σ) e us rest in (
           (a.make (front a.after σ h.0), back a.after σ h.0),
@@ -99,7 +96,7 @@ module _ (Tok Sym : Type 0) (Tree : Sym → Type 0) (print : (s : Sym) → Tree 
 
     pub sound : (ts : List Tok) (σ τ : List Sym) → run σ ts ≡ Some τ → Completes σ ts τ
     sound [] σ τ e = subst (λ (ρ : List Sym). Completes σ [] ρ) (some_some e) (λ us rest. (us, refl))
-    sound (k ∷ ks) [] τ e = λ us rest. absurd (none_some e)
+    sound (k ∷ ks) [] τ e = λ us rest. cc
     sound (k ∷ ks) (s ∷ σ) τ e = step_sound s σ τ k ks (choose s k) (λ ρ. sound ks ρ τ) e
 
     module _ (origin : (s : Sym) (t : Tree s) → (k : Tok) × From s k t) where
@@ -137,7 +134,7 @@ module _ (Tok Sym : Type 0) (Tree : Sym → Type 0) (print : (s : Sym) → Tree 
       pub complete :
           (ts : List Tok) (σ : List Sym) (vs : Trees σ) (more : List Tok) → prints σ vs [] ≡ ts ++ more → Leaves σ ts more
       complete [] σ vs more e = (σ, refl, vs, e)
-      complete (k ∷ ks) [] vs more e = absurd (nil_cons e)
+      complete (k ∷ ks) [] vs more e = cc
       complete (k ∷ ks) (s ∷ σ) vs more e =
           let f = begins s vs.0 (prints σ vs.1 []) k (ks ++ more) e in
           let r = begins_rest s vs.0 (prints σ vs.1 []) k (ks ++ more) f e in

@@ -16,8 +16,7 @@ use Rattle.reader.specs.Grammar.{expand}
 use Rattle.reader.specs.Streams.{ahead, stream_from, stream_of}
 use Rattle.reader.specs.Reading.{refused, reads, learn, onward, ending, default_rank}
 use Rattle.reader.specs.Stacks.{Stacked}
-use Rattle.reader.proofs.Checks.{sealed, stays_sealed, short}
-use Rattle.reader.proofs.StackWords.{false_true}
+use Rattle.reader.proofs.Checks.{sealed, stays_sealed}
 use Rattle.reader.proofs.Choosing.{same}
 
 -- what is left to be read gives what the whole text gives
@@ -174,14 +173,10 @@ module _ (ws : List Word) (text : List ℕ) (start : List Symbol) (v : Stacked) 
 pub no_token_lem :
     (ws : List Word) (text : List ℕ) (start σ : List Symbol) (from rank : ℕ) → State ws text start σ from rank → from ≤ length text →
     (r : Reason) (place : ℕ) → next_token text from ≡ no_token r place → reads start (stream_of ws text) default_rank ≡ refused place
-no_token_lem ws text start [] from rank s inside r place e = absurd (false_true s.closed)
+no_token_lem ws text start [] from rank s inside r place e = cc (s.closed)
 no_token_lem ws text start (t ∷ σ) from rank s inside r place e = breaks ws text start t σ from rank s inside r place e
 
 -- a stack that goes on is not empty
 pub deep : (ws : List Word) (text : List ℕ) (start σ : List Symbol) (from rank : ℕ) → State ws text start σ from rank → 0 < length σ
-deep ws text start [] from rank s = absurd (false_true s.closed)
+deep ws text start [] from rank s = cc (s.closed)
 deep ws text start (t ∷ σ) from rank s = omega arith
-
--- what follows a token is at most five symbols
-pub few : (s : Symbol) (c : Class) (α : List Symbol) → Some α ≡ expand s c → length α ≤ 5
-few s c α e = short s c α (sym e)

@@ -1,7 +1,7 @@
 // What a symbol does with a token besides reading it: what it opens, declares and enters, and what it hands on.
 // All of these take constant time.
-ghost use Rattle.std.specs.Prelude.{◌≡◌, ◌≤◌, IfSome};
-ghost use Rattle.reader.specs.Annotate.{is_outside, opening, extra, declaring, head_kind, introduces, rules, path_head, module_rules, arguments_rules, atom_rules, type_rules, signature_rules, only_at};
+ghost use Rattle.std.specs.Prelude.{◌≡◌, ◌≤◌, IfSome, [], if◌then◌else◌};
+ghost use Rattle.reader.specs.Annotate.{is_outside, opening, extra, declaring, head_kind, introduces, rules, path_head, module_rules, arguments_rules, atom_rules, type_rules, signature_rules, is};
 
 use super::class::Class;
 use super::scope::{Binder, Inherit, PathHead, Sort};
@@ -37,8 +37,13 @@ pub fn extra_open(symbol: Symbol, class: Class) -> Option<u32>
     ensures small { IfSome result (λ n. n ≤ 2) }
 {
     match symbol {
-        Symbol::Module(_) | Symbol::Path(_) | Symbol::Arguments(_) => opens(class),
-        Symbol::Signature | Symbol::Term | Symbol::Atom | Symbol::Type(_) => opens(class),
+        Symbol::Module(_)
+        | Symbol::Path(_)
+        | Symbol::Arguments(_)
+        | Symbol::Signature
+        | Symbol::Term
+        | Symbol::Atom
+        | Symbol::Type(_) => opens(class),
         Symbol::Parameter(_) | Symbol::SignatureParameter | Symbol::Variable => Some(2),
         _ => None,
     }
@@ -86,22 +91,12 @@ pub fn head_kind(symbol: Symbol, class: Class) -> Option<PathHead>
 pub fn introduced(symbol: Symbol, class: Class) -> Option<Binder>
     ensures { result ≡ introduces symbol class }
 {
-    match symbol {
-        Symbol::Unit => Some(Binder::Itself),
-        Symbol::TypeItem | Symbol::TypeSpec => Some(Binder::Component(Sort::Type)),
-        Symbol::ValueItem | Symbol::ValueSpec => Some(Binder::Component(Sort::Value)),
-        Symbol::ModuleItem | Symbol::ModuleSpec => Some(Binder::Component(Sort::Module)),
-        Symbol::Parameter(_) | Symbol::SignatureParameter => Some(Binder::Parameter),
-        Symbol::Variable => Some(Binder::Variable),
-        Symbol::Module(_) => match class {
-            Class::Struct => Some(Binder::Itself),
-            _ => None,
-        },
-        Symbol::Signature => match class {
-            Class::Sig => Some(Binder::Itself),
-            _ => None,
-        },
-        _ => None,
+    match (symbol, class) {
+        (Symbol::Unit, _) | (Symbol::Module(_), Class::Struct) | (Symbol::Signature, Class::Sig) =>
+            { Some(Binder::Itself) }
+        (Symbol::Parameter(_) | Symbol::SignatureParameter, _) => Some(Binder::Parameter),
+        (Symbol::Variable, _) => Some(Binder::Variable),
+        _ => declared_sort(symbol).map(Binder::Component),
     }
 }
 
@@ -119,19 +114,13 @@ fn module_rules(class: Class) -> &'static [Inherit]
 fn arguments_rules(class: Class) -> &'static [Inherit]
     ensures { result.now ≡ arguments_rules class }
 {
-    match class {
-        Class::Open => &[Inherit::Inside, Inherit::Same],
-        _ => &[],
-    }
+    only_at(Class::Open, class, &[Inherit::Inside, Inherit::Same])
 }
 
 fn atom_rules(class: Class) -> &'static [Inherit]
     ensures { result.now ≡ atom_rules class }
 {
-    match class {
-        Class::Open => &[Inherit::Inside, Inherit::Inside],
-        _ => &[],
-    }
+    only_at(Class::Open, class, &[Inherit::Inside, Inherit::Inside])
 }
 
 fn type_rules(class: Class) -> &'static [Inherit]
@@ -154,15 +143,11 @@ fn signature_rules(class: Class) -> &'static [Inherit]
     }
 }
 
-// Everything handed on where a token of this class is read, nothing else named.
-fn only_at(wanted: Class, class: Class) -> &'static [Inherit]
-    ensures { result.now ≡ only_at wanted class }
+// These rules where a token of this class is read, nothing else named.
+fn only_at(wanted: Class, class: Class, rules: &'static [Inherit]) -> &'static [Inherit]
+    ensures { result.now ≡ (if is class wanted then rules.now else []) }
 {
-    if class == wanted {
-        &[Inherit::Same]
-    } else {
-        &[]
-    }
+    if class == wanted { rules } else { &[] }
 }
 
 // What each symbol that follows gets; those that are not named get what holds at the token.
@@ -214,8 +199,8 @@ pub fn rules_of(symbol: Symbol, class: Class) -> &'static [Inherit]
         Symbol::PathName(_) => &[Inherit::Same],
         Symbol::Arguments(_) => arguments_rules(class),
         Symbol::Signature => signature_rules(class),
-        Symbol::TypeSpecEnd => only_at(Class::Equals, class),
-        Symbol::Labels(_) => only_at(Class::Label1, class),
+        Symbol::TypeSpecEnd => only_at(Class::Equals, class, &[Inherit::Same]),
+        Symbol::Labels(_) => only_at(Class::Label1, class, &[Inherit::Same]),
         Symbol::Term => match class {
             Class::Fun => &[Inherit::Bracket],
             _ => atom_rules(class),

@@ -1,7 +1,8 @@
 // The grammar: one function for each symbol. It tells what has to follow a token of a class where the symbol is to be read,
 // or None where the symbol cannot begin with such a token. All of them take constant time.
+// Symbols whose rows look alike keep functions of their own, each what specs/Grammar writes for it.
 ghost use Rattle.std.specs.Prelude.{◌≡◌, ◌≤◌, [], ◌∷◌, length};
-ghost use Rattle.reader.specs.Grammar.{find, rows, expand, after_type_rows, after_module_rows};
+ghost use Rattle.reader.specs.Grammar.{find, rows, expand, after_type_rows, after_module_rows, ◌⇒◌};
 ghost use Rattle.reader.specs.View.{row_of};
 
 use super::class::Class;
@@ -18,27 +19,36 @@ pub fn row(symbols: &[Symbol]) -> Row
     Row::try_from(symbols).unwrap()
 }
 
+// A symbol that begins in one way: this token, and what has to follow it.
+fn only(first: Class, after: &[Symbol], c: Class) -> Option<Row>
+    requires { length after.now ≤ 5 }
+    ensures { row_of result ≡ find c ((first ⇒ after.now) ∷ []) }
+{
+    if c == first { Some(row(after)) } else { None }
+}
+
 // Exactly this token.
 pub fn token(wanted: Class, c: Class) -> Option<Row>
     ensures { row_of result ≡ expand (Symbol.Token wanted) c }
 {
-    if c == wanted { Some(Row::new()) } else { None }
+    only(wanted, &[], c)
 }
 
 // `module U = struct` items `end` and the unit's end
 pub fn unit(c: Class) -> Option<Row>
     ensures { row_of result ≡ expand Symbol.«Unit» c }
 {
-    match c {
-        Class::Module => Some(row(&[
+    only(
+        Class::Module,
+        &[
             Symbol::UnitName,
             Symbol::Token(Class::Equals),
             Symbol::Token(Class::Struct),
             Symbol::Items,
             Symbol::UnitEnd,
-        ])),
-        _ => None,
-    }
+        ],
+        c,
+    )
 }
 
 // the text's end, or `[@@ rank n ]` before it
@@ -74,36 +84,39 @@ pub fn items(c: Class) -> Option<Row>
 pub fn type_item(c: Class) -> Option<Row>
     ensures { row_of result ≡ expand Symbol.TypeItem c }
 {
-    match c {
-        Class::Lower => Some(row(&[
+    only(
+        Class::Lower,
+        &[
             Symbol::Token(Class::Equals),
             Symbol::Type(TypeContext::Items),
-        ])),
-        _ => None,
-    }
+        ],
+        c,
+    )
 }
 
 // `x =` term, behind `let`
 pub fn value_item(c: Class) -> Option<Row>
     ensures { row_of result ≡ expand Symbol.ValueItem c }
 {
-    match c {
-        Class::Lower => Some(row(&[Symbol::Token(Class::Equals), Symbol::Term, Symbol::Items])),
-        _ => None,
-    }
+    only(
+        Class::Lower,
+        &[Symbol::Token(Class::Equals), Symbol::Term, Symbol::Items],
+        c,
+    )
 }
 
 // `X =` module, behind `module`
 pub fn module_item(c: Class) -> Option<Row>
     ensures { row_of result ≡ expand Symbol.ModuleItem c }
 {
-    match c {
-        Class::Upper => Some(row(&[
+    only(
+        Class::Upper,
+        &[
             Symbol::Token(Class::Equals),
             Symbol::Module(ModuleContext::Items),
-        ])),
-        _ => None,
-    }
+        ],
+        c,
+    )
 }
 
 // `functor (`, a path, `struct` items `end`, or `(` module
@@ -122,20 +135,28 @@ pub fn module(context: ModuleContext, c: Class) -> Option<Row>
     }
 }
 
-// `X : signature ) -> module`, behind `functor (`
-pub fn parameter(context: ModuleContext, c: Class) -> Option<Row>
-    ensures { row_of result ≡ expand (Symbol.Parameter context) c }
+// `X : signature ) ->` and a functor's body, behind `functor (`
+fn behind_functor(body: Symbol, c: Class) -> Option<Row>
+    ensures { row_of result ≡ find c ((Class.Upper ⇒ Symbol.Token Class.Colon ∷ Symbol.Signature ∷ Symbol.Token Class.Close ∷ Symbol.Token Class.Arrow ∷ body ∷ []) ∷ []) }
 {
-    match c {
-        Class::Upper => Some(row(&[
+    only(
+        Class::Upper,
+        &[
             Symbol::Token(Class::Colon),
             Symbol::Signature,
             Symbol::Token(Class::Close),
             Symbol::Token(Class::Arrow),
-            Symbol::Module(context),
-        ])),
-        _ => None,
-    }
+            body,
+        ],
+        c,
+    )
+}
+
+// a parameter, and a module
+pub fn parameter(context: ModuleContext, c: Class) -> Option<Row>
+    ensures { row_of result ≡ expand (Symbol.Parameter context) c }
+{
+    behind_functor(Symbol::Module(context), c)
 }
 
 // `.` and a name, or what follows a path
@@ -193,10 +214,7 @@ pub fn module_end(c: Class) -> Option<Row>
 pub fn argument(c: Class) -> Option<Row>
     ensures { row_of result ≡ expand Symbol.Argument c }
 {
-    match c {
-        Class::Upper => Some(row(&[Symbol::ArgumentEnd])),
-        _ => None,
-    }
+    only(Class::Upper, &[Symbol::ArgumentEnd], c)
 }
 
 pub fn argument_end(c: Class) -> Option<Row>
@@ -220,20 +238,11 @@ pub fn signature(c: Class) -> Option<Row>
     }
 }
 
-// `X : signature ) -> signature`, behind `functor (`
+// a parameter, and a signature
 pub fn signature_parameter(c: Class) -> Option<Row>
     ensures { row_of result ≡ expand Symbol.SignatureParameter c }
 {
-    match c {
-        Class::Upper => Some(row(&[
-            Symbol::Token(Class::Colon),
-            Symbol::Signature,
-            Symbol::Token(Class::Close),
-            Symbol::Token(Class::Arrow),
-            Symbol::Signature,
-        ])),
-        _ => None,
-    }
+    behind_functor(Symbol::Signature, c)
 }
 
 // `end`, or a spec and more
@@ -253,10 +262,7 @@ pub fn specs(c: Class) -> Option<Row>
 pub fn type_spec(c: Class) -> Option<Row>
     ensures { row_of result ≡ expand Symbol.TypeSpec c }
 {
-    match c {
-        Class::Lower => Some(row(&[Symbol::TypeSpecEnd])),
-        _ => None,
-    }
+    only(Class::Lower, &[Symbol::TypeSpecEnd], c)
 }
 
 // `=` type, or more specs
@@ -286,14 +292,15 @@ pub fn value_spec(c: Class) -> Option<Row>
 pub fn module_spec(c: Class) -> Option<Row>
     ensures { row_of result ≡ expand Symbol.ModuleSpec c }
 {
-    match c {
-        Class::Upper => Some(row(&[
+    only(
+        Class::Upper,
+        &[
             Symbol::Token(Class::Colon),
             Symbol::Signature,
             Symbol::Specs,
-        ])),
-        _ => None,
-    }
+        ],
+        c,
+    )
 }
 
 // `fun (`, an operator and its atoms, or an atom
@@ -329,11 +336,10 @@ pub fn atom(c: Class) -> Option<Row>
     ensures { row_of result ≡ expand Symbol.Atom c }
 {
     match c {
-        Class::SmallInteger => Some(Row::new()),
-        Class::LargeInteger => Some(Row::new()),
-        Class::Lower => Some(Row::new()),
+        Class::SmallInteger | Class::LargeInteger | Class::Lower | Class::Operator0 => {
+            Some(Row::new())
+        }
         Class::Upper => Some(row(&[Symbol::Token(Class::Dot), Symbol::PathEnd])),
-        Class::Operator0 => Some(Row::new()),
         Class::Open => Some(row(&[Symbol::Term, Symbol::Token(Class::Close)])),
         _ => None,
     }

@@ -56,7 +56,7 @@ pub enum Symbol {
     ArgumentName,
 }
 
-// The symbols in the order of their numbers.
+// The symbols in the order of their numbers. The numbers are said again below: a search of this list for one would be linear.
 const SYMBOLS: [Symbol; 73] = [
     Symbol::Token(Class::Open),
     Symbol::Token(Class::Close),

@@ -24,13 +24,12 @@ pub fn type_start(context: TypeContext, c: Class) -> Option<Row>
     ensures { row_of result ≡ expand (Symbol.«Type» context) c }
 {
     match c {
-        Class::Lower => Some(row(&[Symbol::Labels(context)])),
+        Class::Lower | Class::Label0 => Some(row(&[Symbol::Labels(context)])),
         Class::Upper => Some(row(&[
             Symbol::Token(Class::Dot),
             Symbol::PathEnd,
             Symbol::Labels(context),
         ])),
-        Class::Label0 => Some(row(&[Symbol::Labels(context)])),
         Class::Open => Some(row(&[
             Symbol::Type(TypeContext::Bracketed),
             Symbol::Labels(context),

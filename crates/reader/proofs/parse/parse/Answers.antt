@@ -9,7 +9,7 @@ use Rattle.reader.specs.declared.symbol.Symbol.{Symbol}
 use Rattle.reader.specs.Parsing.{start_of, outcome}
 use Rattle.reader.specs.Stacks.{Stacked}
 use Rattle.reader.proofs.Checks.{sealed}
-use Rattle.reader.proofs.Turns.{begin, deep, found_proper, next_turn, refuses, no_token_lem, at_the_end, few}
+use Rattle.reader.proofs.Turns.{begin, deep, found_proper, next_turn, refuses, no_token_lem, at_the_end}
 use Rattle.reader.proofs.parse.parse.Given as given
 use Rattle.reader.proofs.parse.parse.Goals as goal
 use Rattle.reader.proofs.parse.parse.Goals.{In_ok-found, In-None}
@@ -78,9 +78,8 @@ learned-rank-requires g c = found_proper c.args.text.now c.tokens.found-iterator
 pub push_all-requires-in-tokens : goal.push_all-requires-in-tokens
 push_all-requires-in-tokens g c =
     let i = c.tokens.invariant in
-    let h = few c.pop-symbol.result c.class_of-class.result c.in-Some-expand.after.items c.in-Some-expand.ensures in
     let popped = ap (λ (v : Stacked). length v.symbols) c.pop-symbol.ensures in
-    omega (arith, h, popped, ap (λ (v : Stacked). v.room) c.pop-symbol.ensures, i.room, i.few, i.inside, c.requires.text_len_bound)
+    omega (arith, c.deref.ensures.1, popped, ap (λ (v : Stacked). v.room) c.pop-symbol.ensures, i.room, i.few, i.inside, c.requires.text_len_bound)
 
 pub tokens-preserved : goal.tokens-preserved
 tokens-preserved g c =
@@ -88,14 +87,13 @@ tokens-preserved g c =
     let row = ap Some c.deref.ensures.0 ∙ c.in-Some-expand.ensures in
     let t = here g (goal.at.tokens-preserved g c).In_ok-found in
     let a = advance c.args.text.now c.tokens.found-iterator.from c.in_ok-found.found.place c.in_ok-found.found.end (view c.in_ok-found.found.token) t.next in
-    let h = few c.pop-symbol.result c.class_of-class.result c.deref.result.now row in
     let popped = ap (λ (v : Stacked). length v.symbols) c.pop-symbol.ensures in
     let pushed = ap (λ (v : Stacked). length v.symbols) c.push_all-in-tokens.ensures in
     record {
       same_text = t.same_text;
       inside = omega (arith, t.behind, a.inside);
       room = ap (λ (v : Stacked). v.room) c.push_all-in-tokens.ensures ∙ sym (ap (λ (v : Stacked). v.room) c.pop-symbol.ensures) ∙ i.room;
-      few = omega (arith, h, popped, pushed, length-append c.deref.result.now c.pop-symbol.new.self.symbols, i.few, t.behind, a.forward);
+      few = omega (arith, c.deref.ensures.1, popped, pushed, length-append c.deref.result.now c.pop-symbol.new.self.symbols, i.few, t.behind, a.forward);
       goes_on =
           rw t.behind (next_turn _ _ _ _ _ _ _ _ i.goes_on i.inside c.pop-symbol.ensures _ _ _ _ _ _ _ t.next c.class_of-class.ensures
           row c.push_all-in-tokens.ensures (c.learned-rank.ensures g.C.Core.words));
