@@ -14,7 +14,7 @@ use Rattle.reader.proofs.Turns.{State}
 use Rattle.reader.proofs.Theory as theory
 
 none_some : {X : Type 0} {x : X} → None ≡ Some x → ⊥
-none_some e = let z : ◌≡◌ {A = ℕ} 0 1 = cc in omega arith
+none_some e = cc
 
 some_some : {X : Type 0} {x y : X} → Some x ≡ Some y → x ≡ y
 some_some e = cc

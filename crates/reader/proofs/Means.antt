@@ -43,19 +43,19 @@ two_ways a b y x z true e = x e
 two_ways a b y x z false e = z e
 
 no_lower : (x y : Name) → lower x ≡ upper y → ⊥
-no_lower x y e = let z : ◌≡◌ {A = ℕ} 0 1 = cc in omega arith
+no_lower x y e = cc
 
 word_no_upper : (k : Kind) (n : ℕ) (x y : Name) → word_token k n x ≡ upper y → ⊥
 word_no_upper (Kind.Label p) n x y =
-    two_ways _ _ y (λ e. let z : ◌≡◌ {A = ℕ} 0 1 = cc in omega arith)
-    (two_ways _ _ y (λ e. let z : ◌≡◌ {A = ℕ} 0 1 = cc in omega arith)
-    (two_ways (label2 n) (lower x) y (λ e. let z : ◌≡◌ {A = ℕ} 0 1 = cc in omega arith) (no_lower x y) (eqb p 2)) (eqb p 1))
+    two_ways _ _ y (λ e. cc)
+    (two_ways _ _ y (λ e. cc)
+    (two_ways (label2 n) (lower x) y (λ e. cc) (no_lower x y) (eqb p 2)) (eqb p 1))
     (eqb p 0)
 word_no_upper (Kind.Operator p) n x y =
-    two_ways _ _ y (λ e. let z : ◌≡◌ {A = ℕ} 0 1 = cc in omega arith)
-    (two_ways _ _ y (λ e. let z : ◌≡◌ {A = ℕ} 0 1 = cc in omega arith)
-    (two_ways _ _ y (λ e. let z : ◌≡◌ {A = ℕ} 0 1 = cc in omega arith)
-    (two_ways (operator3 n) (lower x) y (λ e. let z : ◌≡◌ {A = ℕ} 0 1 = cc in omega arith) (no_lower x y) (eqb p 3)) (eqb p 2))
+    two_ways _ _ y (λ e. cc)
+    (two_ways _ _ y (λ e. cc)
+    (two_ways _ _ y (λ e. cc)
+    (two_ways (operator3 n) (lower x) y (λ e. cc) (no_lower x y) (eqb p 3)) (eqb p 2))
     (eqb p 1))
     (eqb p 0)
 
@@ -66,14 +66,14 @@ name_no_upper (Some f) x y e = word_no_upper f.kind f.number x y e
 -- a piece that is an upper name as a token is one
 pub upper_piece_lem : (ws : List Word) (p : Piece) (y : Name) (place : ℕ) → token_of ws p ≡ upper y → upper_piece p place ≡ Some (y, place)
 upper_piece_lem ws (Piece.blank b) y place e = absurd (no_lower (b ∷ []) y e)
-upper_piece_lem ws (Piece.mark m) y place e = absurd (let z : ◌≡◌ {A = ℕ} 0 1 = cc in omega arith)
-upper_piece_lem ws (Piece.keyword k) y place e = absurd (let z : ◌≡◌ {A = ℕ} 0 1 = cc in omega arith)
+upper_piece_lem ws (Piece.mark m) y place e = cc
+upper_piece_lem ws (Piece.keyword k) y place e = cc
 upper_piece_lem ws (Piece.lower x) y place e = absurd (name_no_upper (lookup ws x) x y e)
 upper_piece_lem ws (Piece.upper x) y place e = ap (λ (z : Name). Some (z, place)) (upper_same e)
   where
     upper_same : upper x ≡ upper y → x ≡ y
     upper_same e = cc
-upper_piece_lem ws (Piece.integer ds) y place e = absurd (let z : ◌≡◌ {A = ℕ} 0 1 = cc in omega arith)
+upper_piece_lem ws (Piece.integer ds) y place e = cc
 
 -- ---- the second token
 
@@ -81,7 +81,7 @@ some_some : {X : Type 0} {x y : X} → Some x ≡ Some y → x ≡ y
 some_some e = cc
 
 none_some : {X : Type 0} {x : X} → None ≡ Some x → ⊥
-none_some e = let z : ◌≡◌ {A = ℕ} 0 1 = cc in omega arith
+none_some e = cc
 
 cons_head : {X : Type 0} {x y : X} {xs ys : List X} → x ∷ xs ≡ y ∷ ys → x ≡ y
 cons_head e = cc
@@ -101,12 +101,12 @@ named_there : (ws : List Word) (text : List ℕ) (n from : ℕ) (y : Name) (rest
 named_there ws text zero from y rest k2 e = absurd (text_end_no (cons_head (some_some e)))
   where
     text_end_no : text_end ≡ upper y → ⊥
-    text_end_no e = let z : ◌≡◌ {A = ℕ} 0 1 = cc in omega arith
+    text_end_no e = cc
 named_there ws text (suc n) from y rest k2 e = go (next_token text from) e
   where
     go : (x : Next) → tokens_in (ahead ws (length text) x (λ end. stream_from n ws text end)) ≡ Some (upper y ∷ k2 ∷ rest) →
         (place : ℕ) × (upper_at x ≡ Some (y, place)) × StandsAt (ahead ws (length text) x (λ end. stream_from n ws text end)) [] (Some (upper y)) place
-    go at_end e = absurd (let z : ◌≡◌ {A = ℕ} 0 1 = cc in omega arith)
+    go at_end e = cc
     go (token p place end) e =
         let f = front_is (token_of ws p) (upper y) (k2 ∷ rest) (tokens_in (stream_from n ws text end)) e in
         (place, upper_piece_lem ws p y place f.0, (ap Some (sym f.0), refl))
@@ -179,7 +179,7 @@ heading_means ws text room n h s =
     let u = h.0 in
     let named = unit_named ws text (length text) u.name (keyword Keyword.Module) equals
     (keyword Keyword.Struct ∷ print_items u.items (print_rank u.rank (text_end ∷ [])))
-    (λ e. let z : ◌≡◌ {A = ℕ} 0 1 = cc in omega arith) h.1 in
+    (λ e. cc) h.1 in
     subst (λ (x : Option (Name × ℕ)). UnitMeaning ws text room (heading_of x n (length text))) (sym named.1)
     (u, unit_static ws text u None h.1 s, refl, sym h.2, named.2)
 
@@ -246,7 +246,7 @@ outcome_ok (accepted m) n h = ap accepted (sym (ok_same h))
   where
     ok_same : {n : ℕ} → ◌≡◌ {A = Result ℕ ReadFault} (Ok n) (Ok m) → n ≡ m
     ok_same h = cc
-outcome_ok (refused p) n h = absurd (let z : ◌≡◌ {A = ℕ} 0 1 = cc in omega arith)
+outcome_ok (refused p) n h = cc
 
 -- a text that was read is accepted
 pub accepts : (s : Start) (ws : List Word) (text : List ℕ) (n : ℕ) → Ok n ≡ outcome (reads (start_of s) (stream_of ws text) default_rank) →

@@ -239,7 +239,7 @@ some_some : {X : Type 0} {x y : X} → Some x ≡ Some y → x ≡ y
 some_some e = cc
 
 none_some : {X : Type 0} {x : X} → None ≡ Some x → ⊥
-none_some e = let z : ◌≡◌ {A = ℕ} 0 1 = cc in omega arith
+none_some e = cc
 
 cons_head : {X : Type 0} {x y : X} {xs ys : List X} → x ∷ xs ≡ y ∷ ys → x ≡ y
 cons_head e = cc
@@ -248,7 +248,7 @@ cons_tail : {X : Type 0} {x y : X} {xs ys : List X} → x ∷ xs ≡ y ∷ ys �
 cons_tail e = cc
 
 cons_nil : {X : Type 0} {x : X} {xs : List X} → x ∷ xs ≡ [] → ⊥
-cons_nil e = let z : ◌≡◌ {A = ℕ} 0 1 = cc in omega arith
+cons_nil e = cc
 
 front_is : (k k' : Token) (ks : List Token) (o : Option (List Token)) → in_front k o ≡ Some (k' ∷ ks) → (k ≡ k') × (o ≡ Some ks)
 front_is k k' ks None e = absurd (none_some e)

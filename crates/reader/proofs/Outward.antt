@@ -10,9 +10,6 @@ use Rattle.reader.specs.declared.row.Scope.{Scope as Outward}
 use Rattle.reader.specs.Scopes.{Binding, Scope, same_sort, Resolution, component, bound, nowhere, further, sought, seek, declares, is_declared, is_itself, is_component, is_sought}
 use Rattle.reader.specs.Rows.{entry_at, parent_at, scope_from, scope_of, binding_of, entries_of, is_nowhere}
 
-false_true : false ≡ true → ⊥
-false_true e = let z : ◌≡◌ {A = ℕ} 0 1 = cc in omega arith
-
 -- ---- the answers as searches through the entries
 
 nowhere_further : (r : Resolution) → is_nowhere (further r) ≡ is_nowhere r
@@ -78,10 +75,6 @@ parent_below row i = go (leb (get_or row (4 * i + 1) 0) i) refl
     go : (b : Bool) → leb (get_or row (4 * i + 1) 0) i ≡ b → cond b (get_or row (4 * i + 1) 0) 0 ≤ i
     go true e = leb-true (get_or row (4 * i + 1) 0) i e
     go false e = omega arith
-
--- the number falls on the way outward
-pub parent_falls : (row : List ℕ) (i : ℕ) → 0 < i → parent_at row (i - 1) < i
-parent_falls row i h = let p = parent_below row (i - 1) in omega arith
 
 -- more fuel than the number changes nothing
 pub fuel_free : (n m i : ℕ) (row text : List ℕ) → i ≤ n → i ≤ m → scope_from n row text i ≡ scope_from m row text i

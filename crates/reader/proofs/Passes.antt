@@ -55,11 +55,11 @@ heads_after D t c a x name hs hs' p e h =
     h ∙ ap (λ (y : Around Scope). listed hs (is_unit (head_of (head_kind t c) name y.scope)) p) same
 
 none_some : (p n : ℕ) → refused p ≡ accepted n → ⊥
-none_some p n e = let z : ◌≡◌ {A = ℕ} 0 1 = cc in omega arith
+none_some p n e = cc
 
 accepted_is : (o : Outcome) → is_accepted o ≡ true → (n : ℕ) × (o ≡ accepted n)
 accepted_is (accepted n) e = (n, refl)
-accepted_is (refused p) e = absurd (let z : ◌≡◌ {A = ℕ} 0 1 = cc in omega arith)
+accepted_is (refused p) e = cc
 
 -- one place more at most
 listed_long : (hs : List ℕ) (b : Bool) (p : ℕ) → length (listed hs b p) ≤ length hs + 1

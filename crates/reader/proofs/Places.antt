@@ -29,7 +29,7 @@ pub record Stand (at : ℕ) (bs : List ℕ) (p : Piece) (place end : ℕ) : Type
   pub behind : end ≡ place + length (written p)
 
 found_stand : (at : ℕ) (bs : List ℕ) (p : Piece) (place end : ℕ) (f : Front) → token_front bs ≡ f → found at f ≡ token p place end → Stand at bs p place end
-found_stand at bs p place end (none r) is e = absurd (let z : ◌≡◌ {A = ℕ} 0 1 = cc in omega arith)
+found_stand at bs p place end (none r) is e = cc
 found_stand at bs p place end (piece q) is e =
     let same : q ≡ p = cc in
     let here : at ≡ place = cc in
@@ -42,7 +42,7 @@ found_stand at bs p place end (piece q) is e =
     }
 
 pub stand_of : (at : ℕ) (bs : List ℕ) (p : Piece) (place end : ℕ) → next_from at bs ≡ token p place end → Stand at bs p place end
-stand_of at [] p place end e = absurd (let z : ◌≡◌ {A = ℕ} 0 1 = cc in omega arith)
+stand_of at [] p place end e = cc
 stand_of at (b ∷ bs) p place end e = go (stand_of (suc at) bs p place end) (is_blank b) e
   where
     go : (next_from (suc at) bs ≡ token p place end → Stand (suc at) bs p place end) → (t : Bool) →
@@ -85,13 +85,13 @@ two_ways a b y x f g true h = f h
 two_ways a b y x f g false h = g h
 
 lower_name : (x y : Name) → IsName (lower x) y → x ≡ y
-lower_name x y h = ⊎_elim low (λ e. absurd (let z : ◌≡◌ {A = ℕ} 0 1 = cc in omega arith)) h
+lower_name x y h = ⊎_elim low (λ e. cc) h
   where
     low : lower x ≡ lower y → x ≡ y
     low e = cc
 
 upper_name : (x y : Name) → IsName (upper x) y → x ≡ y
-upper_name x y h = ⊎_elim (λ e. absurd (let z : ◌≡◌ {A = ℕ} 0 1 = cc in omega arith)) up h
+upper_name x y h = ⊎_elim (λ e. cc) up h
   where
     up : upper x ≡ upper y → x ≡ y
     up e = cc
@@ -101,15 +101,15 @@ no_name k x y a b h = absurd (⊎_elim a b h)
 
 word_name : (kd : Kind) (n : ℕ) (x y : Name) → IsName (word_token kd n x) y → x ≡ y
 word_name (Kind.Label p) n x y =
-    two_ways _ _ y x (no_name (label0 n) x y (λ e. let z : ◌≡◌ {A = ℕ} 0 1 = cc in omega arith) (λ e. let z : ◌≡◌ {A = ℕ} 0 1 = cc in omega arith))
-    (two_ways _ _ y x (no_name (label1 n) x y (λ e. let z : ◌≡◌ {A = ℕ} 0 1 = cc in omega arith) (λ e. let z : ◌≡◌ {A = ℕ} 0 1 = cc in omega arith))
-    (two_ways (label2 n) (lower x) y x (no_name (label2 n) x y (λ e. let z : ◌≡◌ {A = ℕ} 0 1 = cc in omega arith) (λ e. let z : ◌≡◌ {A = ℕ} 0 1 = cc in omega arith)) (lower_name x y) (eqb p 2)) (eqb p 1))
+    two_ways _ _ y x (no_name (label0 n) x y (λ e. cc) (λ e. cc))
+    (two_ways _ _ y x (no_name (label1 n) x y (λ e. cc) (λ e. cc))
+    (two_ways (label2 n) (lower x) y x (no_name (label2 n) x y (λ e. cc) (λ e. cc)) (lower_name x y) (eqb p 2)) (eqb p 1))
     (eqb p 0)
 word_name (Kind.Operator p) n x y =
-    two_ways _ _ y x (no_name (operator0 n) x y (λ e. let z : ◌≡◌ {A = ℕ} 0 1 = cc in omega arith) (λ e. let z : ◌≡◌ {A = ℕ} 0 1 = cc in omega arith))
-    (two_ways _ _ y x (no_name (operator1 n) x y (λ e. let z : ◌≡◌ {A = ℕ} 0 1 = cc in omega arith) (λ e. let z : ◌≡◌ {A = ℕ} 0 1 = cc in omega arith))
-    (two_ways _ _ y x (no_name (operator2 n) x y (λ e. let z : ◌≡◌ {A = ℕ} 0 1 = cc in omega arith) (λ e. let z : ◌≡◌ {A = ℕ} 0 1 = cc in omega arith))
-    (two_ways (operator3 n) (lower x) y x (no_name (operator3 n) x y (λ e. let z : ◌≡◌ {A = ℕ} 0 1 = cc in omega arith) (λ e. let z : ◌≡◌ {A = ℕ} 0 1 = cc in omega arith)) (lower_name x y) (eqb p 3)) (eqb p 2)) (eqb p 1))
+    two_ways _ _ y x (no_name (operator0 n) x y (λ e. cc) (λ e. cc))
+    (two_ways _ _ y x (no_name (operator1 n) x y (λ e. cc) (λ e. cc))
+    (two_ways _ _ y x (no_name (operator2 n) x y (λ e. cc) (λ e. cc))
+    (two_ways (operator3 n) (lower x) y x (no_name (operator3 n) x y (λ e. cc) (λ e. cc)) (lower_name x y) (eqb p 3)) (eqb p 2)) (eqb p 1))
     (eqb p 0)
 
 found_name : (f : Option Found) (x y : Name) → IsName (name_token f x) y → x ≡ y
@@ -118,11 +118,11 @@ found_name (Some f) x y h = word_name f.kind f.number x y h
 
 piece_name : (ws : List Word) (p : Piece) (y : Name) → IsName (token_of ws p) y → written p ≡ y
 piece_name ws (Piece.blank b) y h = lower_name (b ∷ []) y h
-piece_name ws (Piece.mark m) y h = no_name (mark m) _ y (λ e. let z : ◌≡◌ {A = ℕ} 0 1 = cc in omega arith) (λ e. let z : ◌≡◌ {A = ℕ} 0 1 = cc in omega arith) h
-piece_name ws (Piece.keyword k) y h = no_name (keyword k) _ y (λ e. let z : ◌≡◌ {A = ℕ} 0 1 = cc in omega arith) (λ e. let z : ◌≡◌ {A = ℕ} 0 1 = cc in omega arith) h
+piece_name ws (Piece.mark m) y h = no_name (mark m) _ y (λ e. cc) (λ e. cc) h
+piece_name ws (Piece.keyword k) y h = no_name (keyword k) _ y (λ e. cc) (λ e. cc) h
 piece_name ws (Piece.lower x) y h = found_name (lookup ws x) x y h
 piece_name ws (Piece.upper x) y h = upper_name x y h
-piece_name ws (Piece.integer ds) y h = no_name (integer ds) ds y (λ e. let z : ◌≡◌ {A = ℕ} 0 1 = cc in omega arith) (λ e. let z : ◌≡◌ {A = ℕ} 0 1 = cc in omega arith) h
+piece_name ws (Piece.integer ds) y h = no_name (integer ds) ds y (λ e. cc) (λ e. cc) h
 
 -- nothing stands between a place and itself
 part_none : (text : List ℕ) → part_of text 0 0 ≡ []

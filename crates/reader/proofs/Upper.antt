@@ -24,12 +24,12 @@ use Rattle.reader.proofs.Means.{upper_piece_lem}
 use Rattle.reader.proofs.Places.{stand_of}
 
 false_true : false ≡ true → ⊥
-false_true e = let z : ◌≡◌ {A = ℕ} 0 1 = cc in omega arith
+false_true e = cc
 
 -- ---- the lexer finds a token again at its place
 
 nothing_there : (p : Piece) → token_front [] ≡ piece p → ⊥
-nothing_there p e = let z : ◌≡◌ {A = ℕ} 0 1 = cc in omega arith
+nothing_there p e = cc
 
 found_at : (at : ℕ) (bs : List ℕ) (p : Piece) → token_front bs ≡ piece p → next_from at bs ≡ token p at (at + length (written p))
 found_at at [] p e = absurd (nothing_there p e)
@@ -269,9 +269,9 @@ name_inside : (text : List ℕ) (p : ℕ) (x : Name) → head_name text p ≡ So
 name_inside text p x e = go (next_token text p) refl e
   where
     go : (n : Next) → next_token text p ≡ n → name_alone (upper_at n) ≡ Some x → p < length text
-    go at_end is e = absurd (let z : ◌≡◌ {A = ℕ} 0 1 = cc in omega arith)
+    go at_end is e = cc
     go (token q place end) is e = let a = advance text p place end q is in omega (arith, a.forward, a.inside)
-    go (no_token r place) is e = absurd (let z : ◌≡◌ {A = ℕ} 0 1 = cc in omega arith)
+    go (no_token r place) is e = cc
 
 first_same : {X : Type 0} {x y : X} {xs ys : List X} → x ∷ xs ≡ y ∷ ys → x ≡ y
 first_same e = cc
@@ -281,6 +281,6 @@ rest_same e = cc
 
 pub names_inside : (text ps : List ℕ) (ms : List (Name × ℕ)) → map (head_name text) ps ≡ some_names ms → (i : ℕ) → i < length ps → get_or ps i 0 < length text
 names_inside text [] ms e i h = absurd (omega arith)
-names_inside text (p ∷ ps) [] e i h = absurd (let z : ◌≡◌ {A = ℕ} 0 1 = cc in omega arith)
+names_inside text (p ∷ ps) [] e i h = cc
 names_inside text (p ∷ ps) (m ∷ ms) e zero h = name_inside text p m.0 (first_same e)
 names_inside text (p ∷ ps) (m ∷ ms) e (suc i) h = names_inside text ps ms (rest_same e) i (omega arith)
