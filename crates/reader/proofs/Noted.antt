@@ -1,5 +1,5 @@
 -- The notes that a reader finds are those of the trees.
-use Rattle.std.proofs.Common.{◌≡◌, ℕ, Bool, cond, List, [], ◌∷◌, ◌++◌, map, Some, None, Option, sym, refl, ap, ◌∙◌, arith}
+use Rattle.std.proofs.Common.{◌≡◌, ℕ, Bool, cond, List, [], ◌∷◌, ◌++◌, map, Some, None, Option, sym, refl, ap, ◌∙◌}
 use Rattle.types.specs.Types.{Name}
 use Rattle.reader.specs.declared.class.Class.{Class}
 use Rattle.reader.specs.declared.scope.Sort.{Sort}

@@ -24,6 +24,7 @@ pub enum ReadFault {
 
 impl ReadFault {
     // The number of the question. Constant time.
+    // A method: `u8::from` would not show which number it is, and callers read it beside the place.
     pub fn number(self) -> u8
         ensures { result ≡ fault_number self }
     {

@@ -194,6 +194,7 @@ impl<'s> Frames<'s> {
         requires { 5 * (length after.now + length self.old.symbols) ≤ self.old.room }
         ensures { self.new ≡ record { symbols = after.now ++ self.old.symbols; attrs = inherits after.now rules.now (attr_of origin.frame) (placed origin.place) origin.new ++ self.old.attrs; room = self.old.room } }
     {
+        // By index: there may be fewer rules than symbols, and a zip with rules added at the end has no reverse.
         'push: for i in (0..after.len()).rev() {
             self.push(after[i], origin.inherit(rule_at(rules, i)));
         }

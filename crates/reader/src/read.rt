@@ -65,7 +65,7 @@ fn name_in(text: &[u8]) -> Option<(&[u8], usize)>
 
 // What is learned of a text that reads.
 #[derive(Clone, Copy, PartialEq, Eq, Debug)]
-pub struct Survey<'s> {
+struct Survey<'s> {
     pub rank: u32,
     // the first places about which the static questions ask
     pub firsts: Firsts,
