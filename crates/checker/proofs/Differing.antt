@@ -1,5 +1,5 @@
 -- Where numbered signatures do not meet, the signatures for which they stand do not match.
-use Rattle.std.proofs.Common.{◌≡◌, ℕ, suc, ◌+◌, Some, None, Option, sym, refl, ◌∙◌, subst, inl, arith}
+use Rattle.std.proofs.Common.{◌≡◌, ℕ, suc, ◌+◌, Some, None, Option, sym, refl, ◌∙◌, subst, arith}
 use Rattle.types.specs.Types.{Name, ModulePath, dot, named, Ty, leaf}
 use Rattle.rules.specs.Signatures.{a_type, a_value, Signature, structure, functor, Components, empty, more, Declaration, abstract, defined, value, nested}
 use Rattle.rules.specs.Substitution.{Substitution, under, innermost, lift, reading, on_type, on_signature, on_components, on_declaration}
@@ -17,7 +17,7 @@ use Rattle.checker.specs.Standing.{entered, Like, LikeAll, LikeOne}
 use Rattle.checker.proofs.Looking.{part_value}
 use Rattle.checker.proofs.Copied.{stands_means}
 use Rattle.checker.proofs.Ground.{PlainIn, PlainInAll, PlainInOne, plain_in, plain_one_agree, Apart, inside_found, meant_tidy, after_meaning, meant_comp, tell_apart, entered_plain}
-use Rattle.checker.proofs.Meeting.{Ground, Reading, There, Side, meets_apart, meets_all_apart, Fitted, ground_enter, reading_weaken, there_enter, there_structure, reading_more, reading_there, partner_type, apart_turn, apart_less, reading_result, reading_lift, partner, there_inside, apart_inside, there_functor, meets_fit, meets_all_at}
+use Rattle.checker.proofs.Meeting.{Ground, Reading, There, Side, meets_all_apart, Fitted, ground_enter, reading_weaken, there_enter, there_structure, reading_more, reading_there, partner_type, apart_less, partner, there_inside, apart_inside, there_functor, meets_fit, meets_all_at, Each, Fitting, parameters_meet, results_meet}
 
 fits_structure : {Γ : Env} {g c : Components} → Fits Γ (structure g) (structure c) → GivesAll (extend Γ (structure g)) innermost c
 fits_structure (f_structure m) = m
@@ -39,9 +39,7 @@ no_structure m = elim m [ ]
 
 -- a match that fails
 abbrev Unfit : (σ : Meaning) (g : Sig) (τ : Meaning) (w : Sig) → Type 0
-Unfit σ g τ w =
-    (Γ : Env) (ρ : Meaning) (a b : ℕ) → Ground Γ ρ → (r : Reading Γ ρ σ) (s : Signature) → Side Γ ρ g σ a r s → (k : Reading Γ ρ τ) (t : Signature) → Side Γ ρ w τ b k t →
-    Apart a (size_of g) b (size_of w) → Fits Γ (on_signature r.way s) (on_signature k.way t) → ⊥
+Unfit σ g τ w = Each σ g τ w (λ Γ ρ r s k t. Fits Γ (on_signature r.way s) (on_signature k.way t) → ⊥)
 
 -- two functors, where their parameters do not meet, or their results do not
 parameters_unfit :
@@ -49,15 +47,8 @@ parameters_unfit :
     (Γ : Env) (ρ : Meaning) (a b : ℕ) → Ground Γ ρ → (x : Reading Γ ρ σ) (S R : Signature) → Side Γ ρ (functor_sig s r) σ a x (functor S R) →
     (k : Reading Γ ρ τ) (S' R' : Signature) → Side Γ ρ (functor_sig s' r') τ b k (functor S' R') → Apart a (suc (size_of s + size_of r)) b (suc (size_of s' + size_of r')) →
     Fits Γ (on_signature x.way (functor S R)) (on_signature k.way (functor S' R')) → ⊥
-parameters_unfit {σ} {τ} {s} {r} {s'} {r'} ih Γ ρ a b d x S R A k S' R' B o h =
-    let A₁ : Side Γ ρ s σ (suc a) x S =
-    record { like = A.like.0; proper = A.proper.0; placed = A.placed.0; plain_names = λ n i j. A.plain_names n (omega arith) (omega arith); plain_means = λ n i j. A.plain_means n (omega arith) (omega arith) } in
-    let B₁ : Side Γ ρ s' τ (suc b) k S' =
-    record { like = B.like.0; proper = B.proper.0; placed = B.placed.0; plain_names = λ n i j. B.plain_names n (omega arith) (omega arith); plain_means = λ n i j. B.plain_means n (omega arith) (omega arith) } in
-    ih Γ ρ (suc b) (suc a) d k S' B₁ x S A₁
-    (apart_turn (suc a) (size_of s) (suc b) (size_of s')
-    (apart_less a (suc (size_of s + size_of r)) b (suc (size_of s' + size_of r')) (suc a) (size_of s) (suc b) (size_of s') o (omega arith) (omega arith) (omega arith) (omega arith)))
-    (fits_functor h).0
+parameters_unfit ih Γ ρ a b d x S R A k S' R' B o h =
+    parameters_meet Γ ρ a b d x S R A k S' R' B o (λ Γ ρ p t q u. Fits Γ (on_signature p.way t) (on_signature q.way u) → ⊥) ih (fits_functor h).0
 
 results_unfit :
     {σ τ υ : Meaning} {s r s' r' : Sig} (m : Meets τ s' σ s υ) → Fitted m → Unfit υ r τ r' →
@@ -65,41 +56,8 @@ results_unfit :
     (k : Reading Γ ρ τ) (S' R' : Signature) → Side Γ ρ (functor_sig s' r') τ b k (functor S' R') → Apart a (suc (size_of s + size_of r)) b (suc (size_of s' + size_of r')) →
     Fits Γ (on_signature x.way (functor S R)) (on_signature k.way (functor S' R')) → ⊥
 results_unfit {σ} {τ} {υ} {s} {r} {s'} {r'} m ih jh Γ ρ a b d x S R A k S' R' B o h =
-    let A₁ : Side Γ ρ s σ (suc a) x S =
-    record { like = A.like.0; proper = A.proper.0; placed = A.placed.0; plain_names = λ n i j. A.plain_names n (omega arith) (omega arith); plain_means = λ n i j. A.plain_means n (omega arith) (omega arith) } in
-    let B₁ : Side Γ ρ s' τ (suc b) k S' =
-    record { like = B.like.0; proper = B.proper.0; placed = B.placed.0; plain_names = λ n i j. B.plain_names n (omega arith) (omega arith); plain_means = λ n i j. B.plain_means n (omega arith) (omega arith) } in
-    let first = ih Γ ρ (suc b) (suc a) d k S' B₁ x S A₁
-    (apart_turn (suc a) (size_of s) (suc b) (size_of s')
-    (apart_less a (suc (size_of s + size_of r)) b (suc (size_of s' + size_of r')) (suc a) (size_of s) (suc b) (size_of s') o (omega arith) (omega arith) (omega arith) (omega arith))) in
-    let Γ* = extend Γ (on_signature k.way S') in
-    let ρ* = entered s' ρ in
-    let aᵣ = suc (a + size_of s) in
-    let bᵣ = suc (b + size_of s') in
-    let r* : Reading Γ* ρ* υ = reading_result Γ ρ σ τ υ x k s s' S S' first in
-    let k* : Reading Γ* ρ* τ = reading_lift Γ ρ τ k s' (suc b) B₁.placed B₁.plain_names B₁.plain_means S' in
-    let A₂ : Side Γ* ρ* r υ aᵣ r* R =
-    record {
-      like = A.like.1;
-      proper = A.proper.1;
-      placed = A.placed.1;
-      plain_names = entered_plain s' (suc b) ρ B₁.placed aᵣ (size_of r)
-          (apart_turn aᵣ (size_of r) (suc b) (size_of s')
-          (apart_less a (suc (size_of s + size_of r)) b (suc (size_of s' + size_of r')) aᵣ (size_of r) (suc b) (size_of s') o (omega arith) (omega arith) (omega arith) (omega arith)))
-          (λ n i j. A.plain_names n (omega arith) (omega arith));
-      plain_means = λ n i j. meets_apart m (suc a) n A₁.placed (λ u v. let z : ⊥ = omega arith in z) ∙ A.plain_means n (omega arith) (omega arith);
-    } in
-    let B₂ : Side Γ* ρ* r' τ bᵣ k* R' =
-    record {
-      like = B.like.1;
-      proper = B.proper.1;
-      placed = B.placed.1;
-      plain_names = entered_plain s' (suc b) ρ B₁.placed bᵣ (size_of r') (inl (omega arith)) (λ n i j. B.plain_names n (omega arith) (omega arith));
-      plain_means = λ n i j. B.plain_means n (omega arith) (omega arith);
-    } in
-    jh Γ* ρ* aᵣ bᵣ (ground_enter Γ ρ d s' τ (suc b) k S' B₁) r* R A₂ k* R' B₂
-    (apart_less a (suc (size_of s + size_of r)) b (suc (size_of s' + size_of r')) aᵣ (size_of r) bᵣ (size_of r') o (omega arith) (omega arith) (omega arith) (omega arith))
-    (fits_functor h).1
+    let first = parameters_meet Γ ρ a b d x S R A k S' R' B o (λ Γ ρ p t q u. Fitting Γ ρ s' τ p t s σ q u υ) ih in
+    results_meet Γ ρ a b d x S R A k S' R' B o m first (λ Γ ρ p t q u. Fits Γ (on_signature p.way t) (on_signature q.way u) → ⊥) jh (fits_functor h).1
 
 structure_clash : (Γ : Env) (p : ModulePath) (S R : Signature) → At Γ p (functor S R) → (c : Components) → Gives Γ p (structure c) → ⊥
 structure_clash Γ p S R a c (g_structure g a' m) = let e = at_unique a a' in cc

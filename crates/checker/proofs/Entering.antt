@@ -81,21 +81,23 @@ mutual
   calls_one_called (value_part t) x p q ρ w = tt
   calls_one_called (module_part s) x p q ρ w = calls_called s (dot p x) (suc q) ρ w
 
--- calling goes out of a binder
-mutual
-  called_out : (s : Sig) (p : ModulePath) (ρ υ : Meaning) → ((n : ℕ) (r : ModulePath) (y : Name) → ρ n ≡ leaf (named r y) → υ n ≡ leaf (named (on_path out r) y)) → Called p s ρ → Called (on_path out p) s υ
-  called_out (sig c) p ρ υ h k = called_all_out c p ρ υ h k
-  called_out (functor_sig s r) p ρ υ h k = tt
+-- calling goes on where paths, and the names that are paths, move alike
+module _ (f : ModulePath → ModulePath) (below : (p : ModulePath) (x : Name) → f (dot p x) ≡ dot (f p) x) (ρ υ : Meaning)
+    (moves : (n : ℕ) (r : ModulePath) (y : Name) → ρ n ≡ leaf (named r y) → υ n ≡ leaf (named (f r) y)) where
+  mutual
+    pub called_moved : (s : Sig) (p : ModulePath) → Called p s ρ → Called (f p) s υ
+    called_moved (sig c) p k = called_all_moved c p k
+    called_moved (functor_sig s r) p k = tt
 
-  called_all_out : (c : Parts) (p : ModulePath) (ρ υ : Meaning) → ((n : ℕ) (r : ModulePath) (y : Name) → ρ n ≡ leaf (named r y) → υ n ≡ leaf (named (on_path out r) y)) → CalledAll p c ρ → CalledAll (on_path out p) c υ
-  called_all_out no_parts p ρ υ h k = tt
-  called_all_out (more_parts c x d) p ρ υ h k = (called_all_out c p ρ υ h k.0, called_one_out d x p ρ υ h k.1)
+    called_all_moved : (c : Parts) (p : ModulePath) → CalledAll p c ρ → CalledAll (f p) c υ
+    called_all_moved no_parts p k = tt
+    called_all_moved (more_parts c x d) p k = (called_all_moved c p k.0, called_one_moved d x p k.1)
 
-  pub called_one_out : (d : Part) (x : Name) (p : ModulePath) (ρ υ : Meaning) → ((n : ℕ) (r : ModulePath) (y : Name) → ρ n ≡ leaf (named r y) → υ n ≡ leaf (named (on_path out r) y)) → CalledOne p x d ρ → CalledOne (on_path out p) x d υ
-  called_one_out (abstract_part j) x p ρ υ h k = h j p x k
-  called_one_out (defined_part t) x p ρ υ h k = tt
-  called_one_out (value_part t) x p ρ υ h k = tt
-  called_one_out (module_part s) x p ρ υ h k = called_out s (dot p x) ρ υ h k
+    pub called_one_moved : (d : Part) (x : Name) (p : ModulePath) → CalledOne p x d ρ → CalledOne (f p) x d υ
+    called_one_moved (abstract_part j) x p k = moves j p x k
+    called_one_moved (defined_part t) x p k = tt
+    called_one_moved (value_part t) x p k = tt
+    called_one_moved (module_part s) x p k = subst (λ q. Called q s υ) (below p x) (called_moved s (dot p x) k)
 
 none_both : (c : Parts) (g : Components) (Γ : Env) (ρ : Meaning) (s : Sort) (x : Name) → LikeAll c g Γ ρ → find s x g ≡ None → find_part s x c ≡ None
 none_both c g Γ ρ s x l e = go (find_part s x c) (find s x g) e (like_found c g Γ ρ l s x)
@@ -215,8 +217,8 @@ carry_out Γ ρ q b n s w i m =
 
 called_outward : (Γ : Env) (ρ : Meaning) (q : ℕ) → Blank q ρ → (n : Sig) → Placed q n → (s : Sig) (p : ModulePath) → Called p s ρ → Called (on_path out p) s (entered n ρ)
 called_outward Γ ρ q b n w s p k =
-    called_out s p ρ (entered n ρ)
-    (λ i r y e. entered_below n q ρ i w (below b i (λ f. cc)) ∙ ap (on_type out) e) k
+    called_moved (on_path out) (λ p x. refl) ρ (entered n ρ)
+    (λ i r y e. entered_below n q ρ i w (below b i (λ f. cc)) ∙ ap (on_type out) e) s p k
 
 head_out :
     (Γ : Env) (ρ : Meaning) (q : ℕ) → Blank q ρ → (n : Sig) (s : Signature) → Placed q n → (o : Option Sig) (o' : Option Signature) (h : Head) →

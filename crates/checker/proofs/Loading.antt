@@ -17,36 +17,20 @@ use Rattle.rules.proofs.Inner.{Proper}
 use Rattle.rules.proofs.Along.{From}
 use Rattle.rules.proofs.Exact.{Exact, exact_at}
 use Rattle.rules.proofs.Derived.{derives_proper}
-use Rattle.rules.proofs.Project.{unit_along, unit_proper, loads_freely, loads_unique, loads_principal, unit_kept}
+use Rattle.rules.proofs.Project.{unit_along, unit_proper, loads_freely, loads_unique, loads_principal, unit_kept, one_more_kept}
 use Rattle.rules.proofs.Settling.{normal_exactly}
-use Rattle.checker.specs.Numbered.{Sig, sig, functor_sig, Parts, no_parts, more_parts, Part, abstract_part, defined_part, value_part, module_part, size_of, Placed}
+use Rattle.checker.specs.Numbered.{Sig, size_of, Placed}
 use Rattle.checker.specs.Meanings.{Meaning, numbered_type, itself}
 use Rattle.checker.specs.Scope.{Scope, nothing, with_unit_of, part_of, module_of, type_of_part, module_at, type_at}
 use Rattle.checker.specs.Faults.{Answer, ok, fault}
 use Rattle.checker.specs.Modules.{check_module}
 use Rattle.checker.specs.Units.{Known, CheckAnswer, accepted, refused, after_unit, check_next, check_units}
-use Rattle.checker.specs.Standing.{calls, Like, Called, CalledAll, CalledOne, HeadStands, ScopeStands, Reached}
+use Rattle.checker.specs.Standing.{calls, Like, Called, HeadStands, ScopeStands, Reached}
 use Rattle.checker.specs.Statements.{Unnamed, OnceUnits, NotSize, NoSize, Accepts, Decided, CheckDecides, AcceptanceLaw, TypeLeads}
 use Rattle.checker.proofs.Carrying.{no_number, Carry, like_along}
 use Rattle.checker.proofs.Looking.{look_type}
-use Rattle.checker.proofs.Entering.{calls_apart, calls_called, like_once, Reaches, calls_reach, Blank, known_below, Settled, World}
+use Rattle.checker.proofs.Entering.{calls_apart, calls_called, like_once, Reaches, calls_reach, Blank, known_below, Settled, World, called_moved}
 use Rattle.checker.proofs.Checking.{ModuleRight, module_right}
-
--- calling where names stay
-mutual
-  called_kept : (s : Sig) (p : ModulePath) (ρ υ : Meaning) → ((n : ℕ) (r : ModulePath) (y : Name) → ρ n ≡ leaf (named r y) → υ n ≡ leaf (named r y)) → Called p s ρ → Called p s υ
-  called_kept (sig c) p ρ υ h k = called_all_kept c p ρ υ h k
-  called_kept (functor_sig s r) p ρ υ h k = tt
-
-  called_all_kept : (c : Parts) (p : ModulePath) (ρ υ : Meaning) → ((n : ℕ) (r : ModulePath) (y : Name) → ρ n ≡ leaf (named r y) → υ n ≡ leaf (named r y)) → CalledAll p c ρ → CalledAll p c υ
-  called_all_kept no_parts p ρ υ h k = tt
-  called_all_kept (more_parts c x d) p ρ υ h k = (called_all_kept c p ρ υ h k.0, called_one_kept d x p ρ υ h k.1)
-
-  called_one_kept : (d : Part) (x : Name) (p : ModulePath) (ρ υ : Meaning) → ((n : ℕ) (r : ModulePath) (y : Name) → ρ n ≡ leaf (named r y) → υ n ≡ leaf (named r y)) → CalledOne p x d ρ → CalledOne p x d υ
-  called_one_kept (abstract_part j) x p ρ υ h k = h j p x k
-  called_one_kept (defined_part t) x p ρ υ h k = tt
-  called_one_kept (value_part t) x p ρ υ h k = tt
-  called_one_kept (module_part s) x p ρ υ h k = called_kept s (dot p x) ρ υ h k
 
 unit_exact : (x : Name) (s : Signature) (Γ : Env) → Γ (unit x) ≡ None → From Exact at Γ (with_unit x s Γ)
 unit_exact x s Γ f h t e = subst (Exact (with_unit x s Γ) (at h)) (sym (signature_id t)) (exact_at (head (unit_kept x s Γ f h t e)))
@@ -56,14 +40,7 @@ normal_unit {Γ} x s f {t} {n} m =
     subst₂ (Normal (with_unit x s Γ)) (type_id t) (type_id n) (normal_exactly m at (with_unit x s Γ) (unit_exact x s Γ f))
 
 scope_kept : (x : Name) (s : Sig) (G : Scope) → G (unit x) ≡ None → (h : Head) (t : Sig) → G h ≡ Some t → with_unit_of x s G h ≡ Some t
-scope_kept x s G f (unit y) t e = go (bytes_eq x y) refl
-  where
-    go : (b : Bool) → bytes_eq x y ≡ b → cond b (Some s) (G (unit y)) ≡ Some t
-    go true q =
-        let i = (bytes_eq-Decides x y).0 q in
-        let j : G (unit x) ≡ Some t = ap (λ z. G (unit z)) i ∙ e in
-        cc
-    go false q = e
+scope_kept x s G f (unit y) t e = one_more_kept x s (λ z. G (unit z)) f y t e
 scope_kept x s G f (binder n) t e = e
 
 module_kept : (x : Name) (s : Sig) (G : Scope) → G (unit x) ≡ None → (p : ModulePath) (t : Sig) → module_at G p ≡ Some t → module_at (with_unit_of x s G) p ≡ Some t
@@ -112,7 +89,7 @@ enter_unit {G} {Γ} {ρ} {q} w x e n s l p d =
         (like_along m t at Γ ρ (with_unit x s Γ) (calls (at (unit x)) n ρ) (unit_along x s Γ none) carry k)
 
     called_here : (m : Sig) (r : ModulePath) → Called r m ρ → Called r m (calls (at (unit x)) n ρ)
-    called_here m r k = called_kept m r ρ (calls (at (unit x)) n ρ) (λ i a y f. kept i a y f (w.settled i)) k
+    called_here m r k = called_moved (λ p. p) (λ p x. refl) ρ (calls (at (unit x)) n ρ) (λ i a y f. kept i a y f (w.settled i)) m r k
       where
         kept : (i : ℕ) (a : ModulePath) (y : Name) → ρ i ≡ leaf (named a y) → (ρ i ≡ numbered_type i) ⊎ Normal Γ (ρ i) (ρ i) → calls (at (unit x)) n ρ i ≡ leaf (named a y)
         kept i a y f (inl g) = cc

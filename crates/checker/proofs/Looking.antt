@@ -2,14 +2,13 @@
 use Rattle.std.proofs.Common.{◌≡◌, ℕ, Bool, true, false, cond, ◌&&◌, eqb, ◌⊎◌, Some, None, Option, sym, refl, ap, ◌∙◌, subst, ap₂, subst₂, inl, inr}
 use Rattle.std.proofs.Math.Path.{fun_ext}
 use Rattle.std.specs.Str.{bytes_eq}
-use Rattle.std.proofs.lemmas.Slice.Eq.{bytes_eq-Decides}
 use Rattle.std.proofs.lemmas.Bool.{eqb-true}
 use Rattle.types.specs.Types.{Name, Head, ModulePath, at, dot, named, Ty, leaf}
 use Rattle.rules.specs.Signatures.{Sort, a_type, a_value, a_module, Signature, structure, functor, Components, empty, more, Declaration, abstract, defined, value, nested, sort_of, same_sort, first_of, find}
 use Rattle.rules.specs.Substitution.{Substitution, innermost, on_path, out, reading, on_type, on_declaration}
 use Rattle.rules.specs.Lookup.{Env, extend, At, head, Has, Normal, opaque, unfolds}
 use Rattle.rules.proofs.Algebra.{signature_id, type_reading_out}
-use Rattle.rules.proofs.Finding.{same_sort_is, at_unique, Begins, all, onward}
+use Rattle.rules.proofs.Finding.{at_unique, Begins, all, onward, last_cases}
 use Rattle.rules.proofs.Along.{From, under_from}
 use Rattle.rules.proofs.Exact.{Exact, exact_laws, longer}
 use Rattle.rules.proofs.Transitive.{knows_exact}
@@ -80,16 +79,7 @@ like_found (more_parts c y e) (more g z d) Γ ρ l s x =
 pub part_cases :
     (c : Parts) (y : Name) (e : Part) (s : Sort) (x : Name) (d : Part) → find_part s x (more_parts c y e) ≡ Some d →
     (find_part s x c ≡ Some d) ⊎ ((find_part s x c ≡ None) × (e ≡ d) × (sort_of_part e ≡ s) × (y ≡ x))
-part_cases c y e s x d = go (find_part s x c) (same_sort s (sort_of_part e)) refl (bytes_eq x y) refl
-  where
-    go :
-        (o : Option Part) (a : Bool) → same_sort s (sort_of_part e) ≡ a → (b : Bool) → bytes_eq x y ≡ b →
-        first_of o (cond (a && b) (Some e) None) ≡ Some d →
-        (o ≡ Some d) ⊎ ((o ≡ None) × (e ≡ d) × (sort_of_part e ≡ s) × (y ≡ x))
-    go (Some d') a p b q f = inl f
-    go None true p true q f = inr (refl, cc, sym (same_sort_is s (sort_of_part e) p), sym ((bytes_eq-Decides x y).0 q))
-    go None true p false q f = cc
-    go None false p b q f = cc
+part_cases c y e s x d = last_cases (find_part s x c) e d s (sort_of_part e) x y
 
 pub called_found : (c : Parts) (p : ModulePath) (ρ : Meaning) → CalledAll p c ρ → (s : Sort) (x : Name) (e : Part) → find_part s x c ≡ Some e → CalledOne p x e ρ
 called_found no_parts p ρ k s x e f = cc

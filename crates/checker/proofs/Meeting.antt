@@ -230,11 +230,16 @@ partner_type Γ ρ σ p x d t k h q =
     subst (λ o. TypeLeads o p x Γ (after_meaning ρ σ)) q (part_type (Some d) p x Γ (after_meaning ρ σ) k) in
     (meant_tidy t s.0 σ h, subst (Normal Γ (leaf (named p x))) (meant_comp ρ σ t) s.1)
 
--- two functors, where their parameters meet the other way round and then their results
-abbrev pub Fitted : {σ τ φ : Meaning} {g w : Sig} → Meets σ g τ w φ → Type 0
-Fitted {σ} {τ} {φ} {g} {w} m =
+-- what holds of any two sides that stand apart
+abbrev pub Each :
+    (σ : Meaning) (g : Sig) (τ : Meaning) (w : Sig) →
+    ((Γ : Env) (ρ : Meaning) → Reading Γ ρ σ → Signature → Reading Γ ρ τ → Signature → Type 0) → Type 0
+Each σ g τ w X =
     (Γ : Env) (ρ : Meaning) (a b : ℕ) → Ground Γ ρ → (r : Reading Γ ρ σ) (s : Signature) → Side Γ ρ g σ a r s → (k : Reading Γ ρ τ) (t : Signature) → Side Γ ρ w τ b k t →
-    Apart a (size_of g) b (size_of w) → Fitting Γ ρ g σ r s w τ k t φ
+    Apart a (size_of g) b (size_of w) → X Γ ρ r s k t
+
+abbrev pub Fitted : {σ τ φ : Meaning} {g w : Sig} → Meets σ g τ w φ → Type 0
+Fitted {σ} {τ} {φ} {g} {w} m = Each σ g τ w (λ Γ ρ r s k t. Fitting Γ ρ g σ r s w τ k t φ)
 
 pub apart_turn : (a k b l : ℕ) → Apart a k b l → Apart b l a k
 apart_turn a k b l (inl h) = inr h
@@ -274,46 +279,72 @@ reading_lift Γ ρ τ k n b w h i s =
       tidy = k.tidy;
     }
 
+-- the parameter of a functor is a side behind the functor's number
+pub side_parameter :
+    {Γ : Env} {ρ σ : Meaning} {s r : Sig} (a : ℕ) (x : Reading Γ ρ σ) (S R : Signature) → Side Γ ρ (functor_sig s r) σ a x (functor S R) →
+    Side Γ ρ s σ (suc a) x S
+side_parameter a x S R A =
+    record { like = A.like.0; proper = A.proper.0; placed = A.placed.0; plain_names = λ n i j. A.plain_names n (omega arith) (omega arith); plain_means = λ n i j. A.plain_means n (omega arith) (omega arith) }
+
+-- two functors: their parameters meet the other way round, and then their results
+module _ {σ τ : Meaning} {s r s' r' : Sig} (Γ : Env) (ρ : Meaning) (a b : ℕ) (d : Ground Γ ρ)
+    (x : Reading Γ ρ σ) (S R : Signature) (A : Side Γ ρ (functor_sig s r) σ a x (functor S R))
+    (k : Reading Γ ρ τ) (S' R' : Signature) (B : Side Γ ρ (functor_sig s' r') τ b k (functor S' R'))
+    (o : Apart a (suc (size_of s + size_of r)) b (suc (size_of s' + size_of r'))) where
+  pub parameters_meet :
+      (X : (Γ : Env) (ρ : Meaning) → Reading Γ ρ τ → Signature → Reading Γ ρ σ → Signature → Type 0) → Each τ s' σ s X → X Γ ρ k S' x S
+  parameters_meet X ih =
+      ih Γ ρ (suc b) (suc a) d k S' (side_parameter b k S' R' B) x S (side_parameter a x S R A)
+      (apart_turn (suc a) (size_of s) (suc b) (size_of s')
+      (apart_less a (suc (size_of s + size_of r)) b (suc (size_of s' + size_of r')) (suc a) (size_of s) (suc b) (size_of s') o (omega arith) (omega arith) (omega arith) (omega arith)))
+
+  -- the reading of the results wanted
+  abbrev pub results_lift : Reading (extend Γ (on_signature k.way S')) (entered s' ρ) τ
+  results_lift =
+      let B₁ = side_parameter b k S' R' B in reading_lift Γ ρ τ k s' (suc b) B₁.placed B₁.plain_names B₁.plain_means S'
+
+  pub results_meet :
+      {υ : Meaning} (m : Meets τ s' σ s υ) (first : Fitting Γ ρ s' τ k S' s σ x S υ)
+      (X : (Γ : Env) (ρ : Meaning) → Reading Γ ρ υ → Signature → Reading Γ ρ τ → Signature → Type 0) → Each υ r τ r' X →
+      X (extend Γ (on_signature k.way S')) (entered s' ρ) (reading_result Γ ρ σ τ υ x k s s' S S' first) R results_lift R'
+  results_meet {υ} m first X jh =
+      let A₁ = side_parameter a x S R A in
+      let B₁ = side_parameter b k S' R' B in
+      let Γ* = extend Γ (on_signature k.way S') in
+      let ρ* = entered s' ρ in
+      let aᵣ = suc (a + size_of s) in
+      let bᵣ = suc (b + size_of s') in
+      let r* : Reading Γ* ρ* υ = reading_result Γ ρ σ τ υ x k s s' S S' first in
+      let A₂ : Side Γ* ρ* r υ aᵣ r* R =
+      record {
+        like = A.like.1;
+        proper = A.proper.1;
+        placed = A.placed.1;
+        plain_names = entered_plain s' (suc b) ρ B₁.placed aᵣ (size_of r)
+            (apart_turn aᵣ (size_of r) (suc b) (size_of s')
+            (apart_less a (suc (size_of s + size_of r)) b (suc (size_of s' + size_of r')) aᵣ (size_of r) (suc b) (size_of s') o (omega arith) (omega arith) (omega arith) (omega arith)))
+            (λ n i j. A.plain_names n (omega arith) (omega arith));
+        plain_means = λ n i j. meets_apart m (suc a) n A₁.placed (λ u v. let z : ⊥ = omega arith in z) ∙ A.plain_means n (omega arith) (omega arith);
+      } in
+      let B₂ : Side Γ* ρ* r' τ bᵣ results_lift R' =
+      record {
+        like = B.like.1;
+        proper = B.proper.1;
+        placed = B.placed.1;
+        plain_names = entered_plain s' (suc b) ρ B₁.placed bᵣ (size_of r') (inl (omega arith)) (λ n i j. B.plain_names n (omega arith) (omega arith));
+        plain_means = λ n i j. B.plain_means n (omega arith) (omega arith);
+      } in
+      jh Γ* ρ* aᵣ bᵣ (ground_enter Γ ρ d s' τ (suc b) k S' B₁) r* R A₂ results_lift R' B₂
+      (apart_less a (suc (size_of s + size_of r)) b (suc (size_of s' + size_of r')) aᵣ (size_of r) bᵣ (size_of r') o (omega arith) (omega arith) (omega arith) (omega arith))
+
 pub functors_fit :
     {σ τ υ φ : Meaning} {s r s' r' : Sig} (m : Meets τ s' σ s υ) (l : Meets υ r τ r' φ) → Fitted m → Fitted l →
     (Γ : Env) (ρ : Meaning) (a b : ℕ) → Ground Γ ρ → (x : Reading Γ ρ σ) (S R : Signature) → Side Γ ρ (functor_sig s r) σ a x (functor S R) →
     (k : Reading Γ ρ τ) (S' R' : Signature) → Side Γ ρ (functor_sig s' r') τ b k (functor S' R') → Apart a (suc (size_of s + size_of r)) b (suc (size_of s' + size_of r')) →
     Fits Γ (on_signature x.way (functor S R)) (on_signature k.way (functor S' R'))
 functors_fit {σ} {τ} {υ} {φ} {s} {r} {s'} {r'} m l ih jh Γ ρ a b d x S R A k S' R' B o =
-    let A₁ : Side Γ ρ s σ (suc a) x S =
-    record { like = A.like.0; proper = A.proper.0; placed = A.placed.0; plain_names = λ n i j. A.plain_names n (omega arith) (omega arith); plain_means = λ n i j. A.plain_means n (omega arith) (omega arith) } in
-    let B₁ : Side Γ ρ s' τ (suc b) k S' =
-    record { like = B.like.0; proper = B.proper.0; placed = B.placed.0; plain_names = λ n i j. B.plain_names n (omega arith) (omega arith); plain_means = λ n i j. B.plain_means n (omega arith) (omega arith) } in
-    let first = ih Γ ρ (suc b) (suc a) d k S' B₁ x S A₁
-    (apart_turn (suc a) (size_of s) (suc b) (size_of s')
-    (apart_less a (suc (size_of s + size_of r)) b (suc (size_of s' + size_of r')) (suc a) (size_of s) (suc b) (size_of s') o (omega arith) (omega arith) (omega arith) (omega arith))) in
-    let Γ* = extend Γ (on_signature k.way S') in
-    let ρ* = entered s' ρ in
-    let aᵣ = suc (a + size_of s) in
-    let bᵣ = suc (b + size_of s') in
-    let r* : Reading Γ* ρ* υ = reading_result Γ ρ σ τ υ x k s s' S S' first in
-    let k* : Reading Γ* ρ* τ = reading_lift Γ ρ τ k s' (suc b) B₁.placed B₁.plain_names B₁.plain_means S' in
-    let A₂ : Side Γ* ρ* r υ aᵣ r* R =
-    record {
-      like = A.like.1;
-      proper = A.proper.1;
-      placed = A.placed.1;
-      plain_names = entered_plain s' (suc b) ρ B₁.placed aᵣ (size_of r)
-          (apart_turn aᵣ (size_of r) (suc b) (size_of s')
-          (apart_less a (suc (size_of s + size_of r)) b (suc (size_of s' + size_of r')) aᵣ (size_of r) (suc b) (size_of s') o (omega arith) (omega arith) (omega arith) (omega arith)))
-          (λ n i j. A.plain_names n (omega arith) (omega arith));
-      plain_means = λ n i j. meets_apart m (suc a) n A₁.placed (λ u v. let z : ⊥ = omega arith in z) ∙ A.plain_means n (omega arith) (omega arith);
-    } in
-    let B₂ : Side Γ* ρ* r' τ bᵣ k* R' =
-    record {
-      like = B.like.1;
-      proper = B.proper.1;
-      placed = B.placed.1;
-      plain_names = entered_plain s' (suc b) ρ B₁.placed bᵣ (size_of r') (inl (omega arith)) (λ n i j. B.plain_names n (omega arith) (omega arith));
-      plain_means = λ n i j. B.plain_means n (omega arith) (omega arith);
-    } in
-    let second = jh Γ* ρ* aᵣ bᵣ (ground_enter Γ ρ d s' τ (suc b) k S' B₁) r* R A₂ k* R' B₂
-    (apart_less a (suc (size_of s + size_of r)) b (suc (size_of s' + size_of r')) aᵣ (size_of r) bᵣ (size_of r') o (omega arith) (omega arith) (omega arith) (omega arith)) in
+    let first = parameters_meet Γ ρ a b d x S R A k S' R' B o (λ Γ ρ p t q u. Fitting Γ ρ s' τ p t s σ q u υ) ih in
+    let second = results_meet Γ ρ a b d x S R A k S' R' B o m first (λ Γ ρ p t q u. Fitting Γ ρ r υ p t r' τ q u φ) jh in
     f_functor {r = on_signature (lift x.way) R} first.0 second.0
 
 -- a component of the given structure

@@ -20,7 +20,7 @@ use Rattle.checker.specs.Copying.{strengthened, strengthened_parts, strengthened
 use Rattle.checker.specs.Standing.{calls, calls_all, calls_one, entered, Like, LikeAll, LikeOne, Called, CalledAll, CalledOne}
 use Rattle.checker.proofs.Carrying.{normal_abstract, normal_outside, normal_weaken, OwnOr, calls_cases, fresh_lift, Carry, stands_along, like_along}
 use Rattle.checker.proofs.Looking.{calls_on, called_calls}
-use Rattle.checker.proofs.Entering.{called_one_out, Blank, Settled}
+use Rattle.checker.proofs.Entering.{called_one_moved, Blank, Settled}
 use Rattle.checker.proofs.Copied.{copy_placed, like_again}
 
 -- a path from the innermost binder leads, in a strengthened structure, to what is strengthened by that path from p
@@ -141,7 +141,7 @@ own_normal Γ υ n p x e (inl f) = cc
 own_normal Γ υ n p x e (inr m) = subst (λ t. Normal Γ t (υ n)) e m
 
 called_under : (e : Part) (x : Name) (p : ModulePath) (υ : Meaning) → CalledOne p x e υ → CalledOne (on_path out p) x e (λ j. on_type out (υ j))
-called_under e x p υ k = called_one_out e x p υ (λ j. on_type out (υ j)) (λ n r y f. ap (on_type out) f) k
+called_under e x p υ k = called_one_moved (on_path out) (λ p x. refl) υ (λ j. on_type out (υ j)) (λ n r y f. ap (on_type out) f) e x p k
 
 mutual
   like_strengthen :

@@ -36,20 +36,25 @@ pub find_more : (c : Components) (y : Name) (e : Declaration) (s : Sort) (x : Na
 find_more c y e s x d f = ap (λ o. first_of o (cond (same_sort s (sort_of e) && bytes_eq x y) (Some e) None)) f
 
 -- what is found was declared before, or is the last declaration
+pub last_cases :
+    {A : Type 0} (o : Option A) (e d : A) (s t : Sort) (x y : Name) →
+    first_of o (cond (same_sort s t && bytes_eq x y) (Some e) None) ≡ Some d →
+    (o ≡ Some d) ⊎ ((o ≡ None) × (e ≡ d) × (t ≡ s) × (y ≡ x))
+last_cases {A} o e d s t x y = go o (same_sort s t) refl (bytes_eq x y) refl
+  where
+    go :
+        (o : Option A) (a : Bool) → same_sort s t ≡ a → (b : Bool) → bytes_eq x y ≡ b → first_of o (cond (a && b) (Some e) None) ≡ Some d →
+        (o ≡ Some d) ⊎ ((o ≡ None) × (e ≡ d) × (t ≡ s) × (y ≡ x))
+    go (Some d') a p b q f = inl f
+    go None true p true q f = inr (refl, cc, sym (same_sort_is s t p), sym ((bytes_eq-Decides x y).0 q))
+    go None true p false q f = cc
+    go None false p b q f = cc
+
 pub find_cases :
     (c : Components) (y : Name) (e : Declaration) (s : Sort) (x : Name) (d : Declaration) →
     find s x (more c y e) ≡ Some d →
     (find s x c ≡ Some d) ⊎ ((find s x c ≡ None) × (e ≡ d) × (sort_of e ≡ s) × (y ≡ x))
-find_cases c y e s x d = go (find s x c) (same_sort s (sort_of e)) refl (bytes_eq x y) refl
-  where
-    go :
-        (o : Option Declaration) (a : Bool) → same_sort s (sort_of e) ≡ a → (b : Bool) → bytes_eq x y ≡ b →
-        first_of o (cond (a && b) (Some e) None) ≡ Some d →
-        (o ≡ Some d) ⊎ ((o ≡ None) × (e ≡ d) × (sort_of e ≡ s) × (y ≡ x))
-    go (Some d') a p b q f = inl f
-    go None true p true q f = inr (refl, cc, sym (same_sort_is s (sort_of e) p), sym ((bytes_eq-Decides x y).0 q))
-    go None true p false q f = cc
-    go None false p b q f = cc
+find_cases c y e s x d = last_cases (find s x c) e d s (sort_of e) x y
 
 pub find_on_some : (θ : Substitution) (s : Sort) (x : Name) (c : Components) (d : Declaration) → find s x c ≡ Some d → find s x (on_components θ c) ≡ Some (on_declaration θ d)
 find_on_some θ s x c d f = find_on θ s x c ∙ ap (on_some (on_declaration θ)) f

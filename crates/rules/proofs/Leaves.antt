@@ -52,24 +52,22 @@ in_right : (Γ : Env) (es fs : List (Entry Γ)) (l : Leaf) → In Γ fs l → In
 in_right Γ [] fs l i = i
 in_right Γ (e ∷ es) fs l i = inr (in_right Γ es fs l i)
 
+-- every leaf of a type has P
+abbrev pub Every : (Leaf → Type 0) → Ty → Type 0
+Every P (leaf l) = P l
+Every P (label0 l) = Unit {0}
+Every P (label1 l t) = Every P t
+Every P (label2 l t u) = Every P t × Every P u
+
+pub every_more : {P Q : Leaf → Type 0} → ((l : Leaf) → P l → Q l) → (t : Ty) → Every P t → Every Q t
+every_more f (leaf l) i = f l i
+every_more f (label0 l) i = tt
+every_more f (label1 l t) i = every_more f t i
+every_more f (label2 l t u) i = (every_more f t i.0, every_more f u i.1)
+
 -- every leaf of a type is in the table
 abbrev Covers : (Γ : Env) → List (Entry Γ) → Ty → Type 0
-Covers Γ es (leaf l) = In Γ es l
-Covers Γ es (label0 l) = Unit {0}
-Covers Γ es (label1 l t) = Covers Γ es t
-Covers Γ es (label2 l t u) = Covers Γ es t × Covers Γ es u
-
-covers_left : (Γ : Env) (es fs : List (Entry Γ)) (t : Ty) → Covers Γ es t → Covers Γ (es ++ fs) t
-covers_left Γ es fs (leaf l) i = in_left Γ es fs l i
-covers_left Γ es fs (label0 l) i = tt
-covers_left Γ es fs (label1 l t) i = covers_left Γ es fs t i
-covers_left Γ es fs (label2 l t u) i = (covers_left Γ es fs t i.0, covers_left Γ es fs u i.1)
-
-covers_right : (Γ : Env) (es fs : List (Entry Γ)) (t : Ty) → Covers Γ fs t → Covers Γ (es ++ fs) t
-covers_right Γ es fs (leaf l) i = in_right Γ es fs l i
-covers_right Γ es fs (label0 l) i = tt
-covers_right Γ es fs (label1 l t) i = covers_right Γ es fs t i
-covers_right Γ es fs (label2 l t u) i = (covers_right Γ es fs t i.0, covers_right Γ es fs u i.1)
+Covers Γ es t = Every (In Γ es) t
 
 -- the table of a type that has a normal form
 table : {Γ : Env} {t n : Ty} → Normal Γ t n → (es : List (Entry Γ)) × Covers Γ es t
@@ -80,7 +78,7 @@ table (part m) = table m
 table {Γ} (parts {t = t} {u = u} m k) =
     let a = table m in
     let b = table k in
-    (a.0 ++ b.0, (covers_left Γ a.0 b.0 t a.1, covers_right Γ a.0 b.0 u b.1))
+    (a.0 ++ b.0, (every_more (in_left Γ a.0 b.0) t a.1, every_more (in_right Γ a.0 b.0) u b.1))
 
 replace_is : {Γ : Env} {t n : Ty} → Normal Γ t n → (es : List (Entry Γ)) (d : Ty) → Covers Γ es t → replace (look Γ es d) t ≡ n
 replace_is {Γ} (opaque {p = p} {x = x} h) es d i = normal_unique (in_look Γ es d (named p x) i) (opaque h)
@@ -100,14 +98,14 @@ CoversAll Γ es (t ∷ ts) = Covers Γ es t × CoversAll Γ es ts
 
 covers_all_right : (Γ : Env) (es fs : List (Entry Γ)) (ts : List Ty) → CoversAll Γ fs ts → CoversAll Γ (es ++ fs) ts
 covers_all_right Γ es fs [] i = tt
-covers_all_right Γ es fs (t ∷ ts) i = (covers_right Γ es fs t i.0, covers_all_right Γ es fs ts i.1)
+covers_all_right Γ es fs (t ∷ ts) i = (every_more (in_right Γ es fs) t i.0, covers_all_right Γ es fs ts i.1)
 
 tables : {Γ : Env} {ts ns : List Ty} → Normals Γ ts ns → (es : List (Entry Γ)) × CoversAll Γ es ts
 tables no_normals = ([], tt)
 tables {Γ} (more_normals {t = t} {ts = ts} m ms) =
     let a = table m in
     let b = tables ms in
-    (a.0 ++ b.0, (covers_left Γ a.0 b.0 t a.1, covers_all_right Γ a.0 b.0 ts b.1))
+    (a.0 ++ b.0, (every_more (in_left Γ a.0 b.0) t a.1, covers_all_right Γ a.0 b.0 ts b.1))
 
 map_replace_is : {Γ : Env} {ts ns : List Ty} → Normals Γ ts ns → (es : List (Entry Γ)) (d : Ty) → CoversAll Γ es ts → map (replace (look Γ es d)) ts ≡ ns
 map_replace_is no_normals es d i = refl

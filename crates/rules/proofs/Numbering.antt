@@ -16,18 +16,12 @@ use Rattle.rules.proofs.Algebra.{under_outward}
 use Rattle.rules.proofs.Finding.{same_bytes_self}
 use Rattle.rules.proofs.Project.{unit_cases}
 use Rattle.rules.proofs.Along.{extend_cases}
-use Rattle.rules.proofs.Leaves.{leaf_law}
+use Rattle.rules.proofs.Leaves.{leaf_law, Every, every_more}
 use Rattle.rules.proofs.Positions.{signature_size_on, position, position_one}
 
 -- the leaves of a normal form are abstract types
 abbrev Abstract : Env → Leaf → Type 0
 Abstract Γ l = (p : ModulePath) × (x : Name) × (l ≡ named p x) × Has Γ p a_type x abstract
-
-abbrev Every : (Leaf → Type 0) → Ty → Type 0
-Every P (leaf l) = P l
-Every P (label0 l) = Unit {0}
-Every P (label1 l t) = Every P t
-Every P (label2 l t u) = Every P t × Every P u
 
 normal_every : {Γ : Env} {t n : Ty} → Normal Γ t n → Every (Abstract Γ) n
 normal_every (opaque {p = p} {x = x} h) = (p, x, refl, h)
@@ -114,23 +108,11 @@ module _ (from : Head → ℕ) (Γ : Env) (k : ℕ) (laid : Laid from Γ k) wher
   abbrev Within : List Leaf → Ty → Type 0
   Within ms t = Every (Among ms) t
 
-  within_left : (ms ls : List Leaf) (t : Ty) → Within ms t → Within (ms ++ ls) t
-  within_left ms ls (leaf l) i = among_left ms ls l i
-  within_left ms ls (label0 l) i = tt
-  within_left ms ls (label1 l t) i = within_left ms ls t i
-  within_left ms ls (label2 l t u) i = (within_left ms ls t i.0, within_left ms ls u i.1)
-
-  within_right : (ms ls : List Leaf) (t : Ty) → Within ls t → Within (ms ++ ls) t
-  within_right ms ls (leaf l) i = among_right ms ls l i
-  within_right ms ls (label0 l) i = tt
-  within_right ms ls (label1 l t) i = within_right ms ls t i
-  within_right ms ls (label2 l t u) i = (within_right ms ls t i.0, within_right ms ls u i.1)
-
   own_leaves : (t : Ty) → Within (leaves t) t
   own_leaves (leaf l) = inl refl
   own_leaves (label0 l) = tt
   own_leaves (label1 l t) = own_leaves t
-  own_leaves (label2 l t u) = (within_left (leaves t) (leaves u) t (own_leaves t), within_right (leaves t) (leaves u) u (own_leaves u))
+  own_leaves (label2 l t u) = (every_more (among_left (leaves t) (leaves u)) t (own_leaves t), every_more (among_right (leaves t) (leaves u)) u (own_leaves u))
 
   restored : (ms : List Leaf) (t : Ty) → AllAbstract ms → Every (Abstract Γ) t → Within ms t → replace (back ms) (in_numbers from Γ t) ≡ t
   restored ms (leaf l) u a i = ap (replace (back ms)) (number_is l) ∙ back_is ms l u a i
@@ -149,8 +131,8 @@ module _ (from : Head → ℕ) (Γ : Env) (k : ℕ) (laid : Laid from Γ k) wher
   restored_all : {ns : List Ty} → AllNormal Γ ns → (ms : List Leaf) → AllAbstract ms → ((t : Ty) → Within (all_leaves ns) t → Within ms t) → map (replace (back ms)) (map (in_numbers from Γ) ns) ≡ ns
   restored_all none_normal ms u i = refl
   restored_all (more_normal {n = n} {ns = ns} m w) ms u i =
-      ap₂ (λ a b. a ∷ b) (restored ms n u (normal_every m) (i n (within_left (leaves n) (all_leaves ns) n (own_leaves n))))
-      (restored_all w ms u (λ t j. i t (within_right (leaves n) (all_leaves ns) t j)))
+      ap₂ (λ a b. a ∷ b) (restored ms n u (normal_every m) (i n (every_more (among_left (leaves n) (all_leaves ns)) n (own_leaves n))))
+      (restored_all w ms u (λ t j. i t (every_more (among_right (leaves n) (all_leaves ns)) t j)))
 
   -- what a rule gives for numbers it gives for the normal forms
   pub numbers_give :

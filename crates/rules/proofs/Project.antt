@@ -1,5 +1,5 @@
 -- Units one after the other: with the sixth rule and without it.
-use Rattle.std.proofs.Common.{◌≡◌, ℕ, Bool, true, false, cond, List, Some, None, sym, refl, ap, ◌∙◌, subst, ap₂, subst₂}
+use Rattle.std.proofs.Common.{◌≡◌, ℕ, Bool, true, false, cond, List, Some, None, sym, refl, ap, ◌∙◌, subst, ap₂, subst₂, Option}
 use Rattle.std.specs.Str.{bytes_eq}
 use Rattle.std.proofs.lemmas.Slice.Eq.{bytes_eq-Decides}
 use Rattle.types.specs.Types.{Name, Head, unit, binder, at, Ty}
@@ -39,15 +39,20 @@ unit_cases x s Γ P z o (binder n) t = o (binder n) t
 unit_here : (x : Name) (s : Signature) (Γ : Env) → with_unit x s Γ (unit x) ≡ Some s
 unit_here x s Γ = ap (λ b. cond b (Some s) (Γ (unit x))) (same_bytes_self x)
 
-pub unit_kept : (x : Name) (s : Signature) (Γ : Env) → Γ (unit x) ≡ None → (h : Head) (t : Signature) → Γ h ≡ Some t → with_unit x s Γ h ≡ Some t
-unit_kept x s Γ f (unit y) t e = go (bytes_eq x y) refl
+-- what is known stays known with one more name, if that was not known
+pub one_more_kept :
+    {A : Type 0} (x : Name) (s : A) (f : Name → Option A) → f x ≡ None → (y : Name) (t : A) → f y ≡ Some t → cond (bytes_eq x y) (Some s) (f y) ≡ Some t
+one_more_kept x s f n y t e = go (bytes_eq x y) refl
   where
-    go : (b : Bool) → bytes_eq x y ≡ b → cond b (Some s) (Γ (unit y)) ≡ Some t
+    go : (b : Bool) → bytes_eq x y ≡ b → cond b (Some s) (f y) ≡ Some t
     go true q =
         let i = (bytes_eq-Decides x y).0 q in
-        let j : Γ (unit x) ≡ Some t = ap (λ z. Γ (unit z)) i ∙ e in
+        let j : f x ≡ Some t = ap f i ∙ e in
         cc
     go false q = e
+
+pub unit_kept : (x : Name) (s : Signature) (Γ : Env) → Γ (unit x) ≡ None → (h : Head) (t : Signature) → Γ h ≡ Some t → with_unit x s Γ h ≡ Some t
+unit_kept x s Γ f (unit y) t e = one_more_kept x s (λ z. Γ (unit z)) f y t e
 unit_kept x s Γ f (binder n) t e = e
 
 pub unit_along : (x : Name) (s : Signature) (Γ : Env) → Γ (unit x) ≡ None → Along at Γ (with_unit x s Γ)
