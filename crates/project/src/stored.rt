@@ -1,7 +1,6 @@
 // The units of a lent store by their places, and what they name; the store's directory is read once.
 ghost use Rattle.std.specs.Prelude.{◌≡◌, ℕ, ◌<◌, Some, length, slice_index_or};
 ghost use Rattle.order.specs.Seen.{nobody};
-ghost use Rattle.store.specs.Directories.{live};
 ghost use Rattle.store.specs.Entries.{blank, found};
 ghost use Rattle.store.specs.Layout.{stored};
 ghost use Rattle.store.specs.Units.{units as units_of};
@@ -22,11 +21,11 @@ use store::name::name_number;
 use store::units::{name_of, text_of};
 
 // A store and its directory. Core and scratch are lent to each call beside it: the rule for lent memory.
-#[derive(Clone, Copy)]
+#[derive(Clone, Copy, PartialEq, Eq, Debug)]
 pub(crate) struct Stored<'a> {
     store: &'a [u8],
     directory: Directory,
-    ghost same: { live directory ≡ stored store.now },
+    ghost same: { directory ≡ stored store.now },
 }
 
 impl<'a> Stored<'a> {

@@ -1,13 +1,9 @@
--- A directory is the list of its entries; its fields, and the answers of its calls.
+-- A directory stands for the list of its entries; its fields, and the answers of its calls.
 use Rattle.std.specs.Prelude.{◌≡◌, ℕ, ◌-◌, ◌<◌, ◌≤◌, true, false, List, length, take, drop, replicate, Option, MatchOption}
 use Rattle.store.specs.declared.entry.Entry.{Entry}
 use Rattle.store.specs.declared.directory.Directory.{Directory}
 use Rattle.store.specs.declared.directory.Directory.TheInside.{Inside}
 use Rattle.store.specs.Entries.{blank, lawful, seat, fits, entered, vacated}
-
--- the entries of a directory, which is their list
-abbrev pub live : Directory → List Entry
-live d = d
 
 -- what the fields of every directory keep: 16 places, of which the first hold lawful entries, and the others are blank
 pub record IsDirectory (d : Inside) : Type 0 where
