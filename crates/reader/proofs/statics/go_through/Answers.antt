@@ -11,7 +11,7 @@ use Rattle.reader.specs.Frames.{Framed, attr_of, placed}
 use Rattle.reader.specs.Rows.{Entered}
 use Rattle.reader.specs.Scopes.{Scope}
 use Rattle.reader.proofs.Begun.{begun, none_yet, start_long}
-use Rattle.reader.proofs.Passes.{not_empty, never_broken, never_stuck, room_after, small_place, turned, last_firsts, last_heads}
+use Rattle.reader.proofs.Passes.{never_broken, never_stuck, room_after, small_place, turned, last_firsts, last_heads}
 use Rattle.reader.proofs.Places.{span_low, place_low}
 use Rattle.reader.proofs.Turns.{found_proper}
 use Rattle.reader.proofs.statics.go_through.Given as given
@@ -54,9 +54,6 @@ returns-in_err-found g c =
     let i = c.tokens.invariant in
     absurd (never_broken _ _ _ _ _ _ _ _ _ _ i.pass c.requires.accepted _ _ (turn_fault _ _ _ _ _ _ i.same_text c.next.ensures.steps c.in-Some.is c.in_err-found.was))
 
-pub pop-symbol-requires : goal.pop-symbol-requires
-pop-symbol-requires g c = not_empty _ _ _ _ _ _ _ _ _ _ c.tokens.invariant.pass c.requires.accepted
-
 pub class_of-class-requires : goal.class_of-class-requires
 class_of-class-requires g c = found_proper c.args.text.now c.tokens.found-iterator.from _ _ _ (here g (goal.at.class_of-class-requires g c).In_ok-found).next
 
@@ -71,10 +68,6 @@ list-requires-clause-place_bound g c =
     let adv = advance c.args.text.now c.tokens.found-iterator.from c.in_ok-found.found.place c.in_ok-found.found.end (view c.in_ok-found.found.token) t.next in
     let low = place_low c.args.text.now c.tokens.found-iterator.from c.in_ok-found.found.place c.in_ok-found.found.end (view c.in_ok-found.found.token) t.next in
     omega (arith, low, adv.inside, c.requires.text_len_bound)
-
-pub list-requires-clause-count_in_bounds : goal.list-requires-clause-count_in_bounds
-list-requires-clause-count_in_bounds g c =
-    let i = c.tokens.invariant in omega (arith, i.pass.listed, i.pass.inside, i.heads_room, c.requires.text_len_bound)
 
 pub overflow_cast-from : goal.overflow_cast-from
 overflow_cast-from g c =
