@@ -12,88 +12,83 @@ mod tests {
     };
     use std::test::Fail;
 
-    // The question and the place of a refusal; 0 and the rank of a unit that reads.
-    fn told<C: Core>(core: &C, text: &[u8], scratch: &mut [u32]) -> (u8, Option<usize>) {
-        match read_unit(core, text, scratch) {
-            Ok(heading) => (0, Some(usize::from(heading.rank))),
-            Err(fault) => (fault.number(), fault.place()),
-        }
+    // The number of the question that a text answers with no, and the place, where it is about one.
+    type Refused = (u8, Option<usize>);
+
+    fn refused(fault: ReadFault) -> Refused {
+        (fault.number(), fault.place())
     }
 
-    // The same of a signature, whose good answer is 0 alone.
-    fn told_signature<C: Core>(core: &C, text: &[u8], scratch: &mut [u32]) -> (u8, Option<usize>) {
-        match read_signature(core, text, scratch) {
-            Ok(()) => (0, None),
-            Err(fault) => (fault.number(), fault.place()),
-        }
+    // The rank of a unit that reads, or its refusal.
+    fn told<C: Core>(core: &C, text: &[u8], scratch: &mut [u32]) -> Result<u8, Refused> {
+        let heading = read_unit(core, text, scratch).map_err(refused)?;
+        Ok(heading.rank)
+    }
+
+    // The same of a signature, which has no rank.
+    fn told_signature<C: Core>(core: &C, text: &[u8], scratch: &mut [u32]) -> Result<(), Refused> {
+        read_signature(core, text, scratch).map_err(refused)
     }
 
     // The place of the first head, from a place on, that names a unit.
     fn named<C: Core>(core: &C, text: &[u8], scratch: &mut [u32], from: usize) -> Option<usize> {
-        match mentioned_unit(core, text, scratch, from) {
-            Ok(Some((_, place))) => Some(place),
-            _ => None,
-        }
+        let (_, place) = mentioned_unit(core, text, scratch, from).ok()??;
+        Some(place)
     }
 
-    // How many heads name units, with the place of one of them and the first byte of its name; or the question and place of a refusal.
-    fn one_of(
-        text: &[u8],
-        heads: Result<&[u32], ReadFault>,
-        i: usize,
-    ) -> (usize, Option<usize>, Option<u8>) {
-        match heads {
-            Ok(places) => {
-                if i < places.len() {
-                    let place = places[i] as usize;
-                    let first = match head_name(text, place) {
-                        Some([b, ..]) => Some(*b),
-                        _ => None,
-                    };
-                    (places.len(), Some(place), first)
-                } else {
-                    (places.len(), None, None)
-                }
-            }
-            Err(fault) => (usize::from(fault.number()), fault.place(), None),
-        }
+    // How many heads name units, with the place of one of them and the first byte of its name.
+    type Listed = (usize, Option<usize>, Option<u8>);
+
+    // That of a text over the first core, or its refusal.
+    fn heads(text: &[u8], scratch: &mut [u32], start: Start, i: usize) -> Result<Listed, Refused> {
+        let places = heads_of(&MiniMl, text, scratch, start).map_err(refused)?;
+        let place = places.get(i).map(|place| *place as usize);
+        let name = place.and_then(|place| head_name(text, place));
+        Ok((
+            places.len(),
+            place,
+            name.and_then(|name| name.first().copied()),
+        ))
     }
 
-    // That of a unit's text over the first core.
-    fn listed(text: &[u8], scratch: &mut [u32], i: usize) -> (usize, Option<usize>, Option<u8>) {
-        one_of(text, heads_of(&MiniMl, text, scratch, Start::Unit), i)
+    // That of a unit's text.
+    fn listed(text: &[u8], scratch: &mut [u32], i: usize) -> Result<Listed, Refused> {
+        heads(text, scratch, Start::Unit, i)
     }
 
     // That of the text of a signature.
-    fn signed(text: &[u8], scratch: &mut [u32], i: usize) -> (usize, Option<usize>, Option<u8>) {
-        one_of(text, heads_of(&MiniMl, text, scratch, Start::Signature), i)
+    fn signed(text: &[u8], scratch: &mut [u32], i: usize) -> Result<Listed, Refused> {
+        heads(text, scratch, Start::Signature, i)
     }
 
     #[test]
     fn units_and_ranks(rt: HostRuntime) -> Result<(), Fail> {
         let mut words = vec![in rt.alloc(); 0u32; SCRATCH_WORDS]?;
         let scratch = words.as_mut_slice();
-        assert_eq!(rt;
-            told(&MiniMl, b"module U = struct end", scratch),
-            (0, Some(100))
-        );
+        assert_eq!(rt; told(&MiniMl, b"module U = struct end", scratch), Ok(100));
         assert_eq!(rt;
             told(&MiniMl, b"module U=struct end[@@rank 007]", scratch),
-            (0, Some(7))
+            Ok(7)
         );
         assert_eq!(rt;
             told(&MiniMl, b"module U = struct end [@@ rank 256 ]", scratch),
-            (3, Some(31))
+            Err((3, Some(31)))
         );
         assert_eq!(rt;
             told(&MiniMl, b"module U = struct end end", scratch),
-            (3, Some(22))
+            Err((3, Some(22)))
         );
-        assert_eq!(rt; told(&MiniMl, b"module U = struct", scratch), (3, Some(17)));
-        assert_eq!(rt; told(&MiniMl, b"", scratch), (3, Some(0)));
-        assert_eq!(rt; told(&MiniMl, b"module U = struct end", &mut []), (1, None));
-        assert_eq!(rt; told(&MiniMl, &[b'('; 4001], scratch), (2, None));
-        assert_eq!(rt; told(&MiniMl, &[b'('; 4000], scratch), (3, Some(0)));
+        assert_eq!(rt;
+            told(&MiniMl, b"module U = struct", scratch),
+            Err((3, Some(17)))
+        );
+        assert_eq!(rt; told(&MiniMl, b"", scratch), Err((3, Some(0))));
+        assert_eq!(rt;
+            told(&MiniMl, b"module U = struct end", &mut []),
+            Err((1, None))
+        );
+        assert_eq!(rt; told(&MiniMl, &[b'('; 4001], scratch), Err((2, None)));
+        assert_eq!(rt; told(&MiniMl, &[b'('; 4000], scratch), Err((3, Some(0))));
         Ok(())
     }
 
@@ -103,19 +98,19 @@ mod tests {
         let scratch = words.as_mut_slice();
         assert_eq!(rt;
             told(&MiniMl, b"module U = struct let add = 1 end", scratch),
-            (3, Some(22))
+            Err((3, Some(22)))
         );
         assert_eq!(rt;
             told(&MiniC, b"module U = struct let add = 1 end", scratch),
-            (0, Some(100))
+            Ok(100)
         );
         assert_eq!(rt;
             told_signature(&MiniC, b"sig val x : int ptr ptr end", scratch),
-            (0, None)
+            Ok(())
         );
         assert_eq!(rt;
             told_signature(&MiniMl, b"sig val x : (int, bool) end", scratch),
-            (3, Some(24))
+            Err((3, Some(24)))
         );
         Ok(())
     }
@@ -130,7 +125,7 @@ mod tests {
                 b"module U = struct let x = (((((((((((1))))))))))) end",
                 scratch
             ),
-            (0, Some(100))
+            Ok(100)
         );
         assert_eq!(rt;
             told(
@@ -138,7 +133,7 @@ mod tests {
                 b"module U = struct let x = ((((((((((((1)))))))))))) end",
                 scratch
             ),
-            (4, Some(37))
+            Err((4, Some(37)))
         );
         assert_eq!(rt;
             told(
@@ -146,7 +141,7 @@ mod tests {
                 b"module U = struct let x = 1 let x = 2 end",
                 scratch
             ),
-            (5, Some(32))
+            Err((5, Some(32)))
         );
         assert_eq!(rt;
             told(
@@ -154,11 +149,11 @@ mod tests {
                 b"module U = struct type x = int let x = 2 end",
                 scratch
             ),
-            (0, Some(100))
+            Ok(100)
         );
         assert_eq!(rt;
             told(&MiniMl, b"module U = struct let x = x end", scratch),
-            (6, Some(26))
+            Err((6, Some(26)))
         );
         assert_eq!(rt;
             named(&MiniMl, b"module B = struct let y = A.x end", scratch, 0),
@@ -182,7 +177,7 @@ mod tests {
                 b"module U=struct type t=(((((((((((int))))))))))) end",
                 scratch
             ),
-            (0, Some(100))
+            Ok(100)
         );
         assert_eq!(rt;
             told(
@@ -190,7 +185,7 @@ mod tests {
                 b"module U=struct type t=((((((((((((int)))))))))))) end",
                 scratch
             ),
-            (4, Some(34))
+            Err((4, Some(34)))
         );
         assert_eq!(rt;
             told(
@@ -198,7 +193,7 @@ mod tests {
                 b"module U=struct module A=(((((((((((struct end))))))))))) end",
                 scratch
             ),
-            (4, Some(36))
+            Err((4, Some(36)))
         );
         assert_eq!(rt;
             told(
@@ -206,7 +201,7 @@ mod tests {
                 b"module U=struct module A=((((((((((struct end)))))))))) end",
                 scratch
             ),
-            (0, Some(100))
+            Ok(100)
         );
         assert_eq!(rt;
             told(
@@ -214,7 +209,7 @@ mod tests {
                 b"module U=struct let f=fun(a:int)->fun(b:int)->fun(c:int)->fun(d:int)->fun(e:int)->fun(g:int)->fun(h:int)->fun(i:int)->fun(j:int)->fun(k:int)->1 end",
                 scratch
             ),
-            (0, Some(100))
+            Ok(100)
         );
         assert_eq!(rt;
             told(
@@ -222,7 +217,7 @@ mod tests {
                 b"module U=struct let f=fun(a:int)->fun(b:int)->fun(c:int)->fun(d:int)->fun(e:int)->fun(g:int)->fun(h:int)->fun(i:int)->fun(j:int)->fun(k:int)->fun(l:int)->1 end",
                 scratch
             ),
-            (4, Some(145))
+            Err((4, Some(145)))
         );
         assert_eq!(rt;
             told_signature(
@@ -230,7 +225,7 @@ mod tests {
                 b"sig module A:sig module A:sig module A:sig module A:sig module A:sig module A:functor(X:sig end)->functor(X:sig end)->functor(X:sig end)->functor(X:sig end)->sig end end end end end end end",
                 scratch
             ),
-            (0, None)
+            Ok(())
         );
         assert_eq!(rt;
             told_signature(
@@ -238,7 +233,7 @@ mod tests {
                 b"sig module A:sig module A:sig module A:sig module A:sig module A:sig module A:functor(X:sig end)->functor(X:sig end)->functor(X:sig end)->functor(X:sig end)->functor(X:sig end)->sig end end end end end end end",
                 scratch
             ),
-            (4, Some(168))
+            Err((4, Some(168)))
         );
         Ok(())
     }
@@ -249,7 +244,7 @@ mod tests {
         let scratch = words.as_mut_slice();
         assert_eq!(rt;
             listed(b"module U = struct let x = 1 let y = x end", scratch, 0),
-            (0, None, None)
+            Ok((0, None, None))
         );
         assert_eq!(rt;
             listed(
@@ -257,7 +252,7 @@ mod tests {
                 scratch,
                 0
             ),
-            (4, Some(26), Some(b'A'))
+            Ok((4, Some(26), Some(b'A')))
         );
         assert_eq!(rt;
             listed(
@@ -265,7 +260,7 @@ mod tests {
                 scratch,
                 1
             ),
-            (4, Some(41), Some(b'F'))
+            Ok((4, Some(41), Some(b'F')))
         );
         assert_eq!(rt;
             listed(
@@ -273,7 +268,7 @@ mod tests {
                 scratch,
                 2
             ),
-            (4, Some(43), Some(b'G'))
+            Ok((4, Some(43), Some(b'G')))
         );
         assert_eq!(rt;
             listed(
@@ -281,7 +276,7 @@ mod tests {
                 scratch,
                 3
             ),
-            (4, Some(46), Some(b'A'))
+            Ok((4, Some(46), Some(b'A')))
         );
         assert_eq!(rt;
             listed(
@@ -289,15 +284,15 @@ mod tests {
                 scratch,
                 4
             ),
-            (4, None, None)
+            Ok((4, None, None))
         );
         assert_eq!(rt;
             listed(b"module U = struct let x = 1 let y = U.x end", scratch, 0),
-            (1, Some(36), Some(b'U'))
+            Ok((1, Some(36), Some(b'U')))
         );
         assert_eq!(rt;
             listed(b"module U = struct let x = y let z = A.x end", scratch, 0),
-            (1, Some(36), Some(b'A'))
+            Ok((1, Some(36), Some(b'A')))
         );
         Ok(())
     }
@@ -312,11 +307,11 @@ mod tests {
                 scratch,
                 0
             ),
-            (1, Some(26), Some(b'A'))
+            Ok((1, Some(26), Some(b'A')))
         );
         assert_eq!(rt;
             listed(b"module U = struct module A = A end", scratch, 0),
-            (1, Some(29), Some(b'A'))
+            Ok((1, Some(29), Some(b'A')))
         );
         assert_eq!(rt;
             listed(
@@ -324,7 +319,7 @@ mod tests {
                 scratch,
                 0
             ),
-            (1, Some(100), Some(b'X'))
+            Ok((1, Some(100), Some(b'X')))
         );
         assert_eq!(rt;
             listed(
@@ -332,7 +327,7 @@ mod tests {
                 scratch,
                 0
             ),
-            (1, Some(54), Some(b'X'))
+            Ok((1, Some(54), Some(b'X')))
         );
         Ok(())
     }
@@ -347,7 +342,7 @@ mod tests {
                 scratch,
                 1
             ),
-            (4, Some(47), Some(b'A'))
+            Ok((4, Some(47), Some(b'A')))
         );
         assert_eq!(rt;
             listed(
@@ -355,7 +350,7 @@ mod tests {
                 scratch,
                 2
             ),
-            (4, Some(59), Some(b'B'))
+            Ok((4, Some(59), Some(b'B')))
         );
         assert_eq!(rt;
             listed(
@@ -363,7 +358,7 @@ mod tests {
                 scratch,
                 3
             ),
-            (4, Some(77), Some(b'C'))
+            Ok((4, Some(77), Some(b'C')))
         );
         assert_eq!(rt;
             signed(
@@ -371,7 +366,7 @@ mod tests {
                 scratch,
                 0
             ),
-            (1, Some(27), Some(b'A'))
+            Ok((1, Some(27), Some(b'A')))
         );
         assert_eq!(rt;
             signed(
@@ -379,7 +374,7 @@ mod tests {
                 scratch,
                 0
             ),
-            (1, Some(49), Some(b'Y'))
+            Ok((1, Some(49), Some(b'Y')))
         );
         Ok(())
     }
@@ -390,12 +385,12 @@ mod tests {
         let scratch = words.as_mut_slice();
         assert_eq!(rt;
             listed(b"module U = struct end", &mut [], 0),
-            (1, None, None)
+            Err((1, None))
         );
-        assert_eq!(rt; listed(&[b'('; 4001], scratch, 0), (2, None, None));
+        assert_eq!(rt; listed(&[b'('; 4001], scratch, 0), Err((2, None)));
         assert_eq!(rt;
             listed(b"module U = struct A end", scratch, 0),
-            (3, Some(18), None)
+            Err((3, Some(18)))
         );
         Ok(())
     }
