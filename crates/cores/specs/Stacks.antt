@@ -177,6 +177,9 @@ line_own es b n h r =
     let f : b + (n - b) ≡ n = omega arith in
     sym (line_raised b 0 es (n - b)) ∙ ap (λ (k : ℕ). line_from k es (b + (n - b))) e ∙ ap (line_from b es) f ∙ ap (λ (fs : List Entry). line_from b fs n) (sym (own_room es b r))
 
+pub line_none : (es : List Entry) (b n : ℕ) → nat_le (b + length es) 1073741824 ≡ false → None ≡ line_from b (own es b) n
+line_none es b n r = sym (ap (λ (fs : List Entry). line_from b fs n) (own_none es b r))
+
 within_mono : (m n b : ℕ) (p : Pattern) → m ≤ n → Within m b p → Within n b p
 within_mono m n b τ h w = tt
 within_mono m n b ρ h w = tt
