@@ -173,10 +173,7 @@ pub fn path(context: ModuleContext, c: Class) -> Option<Row>
 pub fn path_name(context: ModuleContext, c: Class) -> Option<Row>
     ensures { row_of result ≡ expand (Symbol.PathName context) c }
 {
-    match c {
-        Class::Upper => Some(row(&[Symbol::Path(context)])),
-        _ => None,
-    }
+    only(Class::Upper, &[Symbol::Path(context)], c)
 }
 
 // what follows a module
@@ -279,13 +276,14 @@ pub fn type_spec_end(c: Class) -> Option<Row>
 pub fn value_spec(c: Class) -> Option<Row>
     ensures { row_of result ≡ expand Symbol.ValueSpec c }
 {
-    match c {
-        Class::Lower => Some(row(&[
+    only(
+        Class::Lower,
+        &[
             Symbol::Token(Class::Colon),
             Symbol::Type(TypeContext::Specs),
-        ])),
-        _ => None,
-    }
+        ],
+        c,
+    )
 }
 
 // `X :` signature, behind `module`
@@ -320,15 +318,16 @@ pub fn term(c: Class) -> Option<Row>
 pub fn variable(c: Class) -> Option<Row>
     ensures { row_of result ≡ expand Symbol.Variable c }
 {
-    match c {
-        Class::Lower => Some(row(&[
+    only(
+        Class::Lower,
+        &[
             Symbol::Token(Class::Colon),
             Symbol::Type(TypeContext::Closed),
             Symbol::Token(Class::Arrow),
             Symbol::Term,
-        ])),
-        _ => None,
-    }
+        ],
+        c,
+    )
 }
 
 // a literal, a value path, an operator without arguments, or `(term)`

@@ -77,8 +77,7 @@ pub fn parse<C: Core>(
         rank = learned(symbol, found.token, rank);
         stack.push_all(&after);
     }
-    match expand(stack.pop(), Class::TextEnd) {
-        Some(_) => Ok(rank),
-        None => Err(ReadFault::Syntax(text.len())),
-    }
+    expand(stack.pop(), Class::TextEnd)
+        .map(|_| rank)
+        .ok_or(ReadFault::Syntax(text.len()))
 }

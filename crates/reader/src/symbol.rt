@@ -175,6 +175,7 @@ impl From<Symbol> for u32 {
     }
 }
 
+// By hand: a derived default takes no variant with a field.
 impl Default for Symbol {
     ghost use Rattle.reader.specs.declared.class.Class.{Class};
     ghost use Rattle.reader.specs.declared.symbol.Symbol.{Symbol};
@@ -187,13 +188,11 @@ impl Default for Symbol {
 }
 
 // The symbol of a number; a number that is none stands for the first symbol. Constant time.
+// From and no TryFrom: only numbers that were written from a symbol stand in the words.
 impl From<u32> for Symbol {
     ghost from_gives = { λ n symbol. symbol ≡ symbol_at n };
 
     fn from(n: u32) -> Symbol {
-        SYMBOLS
-            .get(n as usize)
-            .copied()
-            .unwrap_or(Symbol::Token(Class::Open))
+        SYMBOLS.get(n as usize).copied().unwrap_or_default()
     }
 }

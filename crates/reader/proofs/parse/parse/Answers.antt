@@ -1,13 +1,19 @@
-use Rattle.std.proofs.Common.{◌≡◌, ℕ, ◌≤◌, true, List, [], ◌++◌, length, Some, Err, sym, refl, ap, ◌∙◌, arith, length-append}
+use Rattle.std.proofs.Common.{◌≡◌, ℕ, ◌≤◌, true, List, [], ◌++◌, length, Option, None, Some, Ok, Err, sym, refl, ap, ◌∙◌, rules, arith, length-append}
+use borrow.Author.Tests.{tests}
+use Rattle.std.specs.Option.{MatchOption, IsSomeAnd, ok_or}
 use Rattle.std.proofs.lemmas.Result.{err_from_is_err_and}
+use Rattle.arrayvec.specs.ArrayVec.{ArrayVec}
 use Rattle.tokens.proofs.Walk.{advance}
 use Rattle.tokens.proofs.Turns.{Turn, turn, turn_fault, turn_end}
 use Rattle.tokens.specs.Lexer.{view, next_token, at_end}
 use Rattle.tokens.specs.declared.lexer.Tokens.{Tokens}
+use Rattle.reader.specs.declared.fault.ReadFault.TheVariants.{Syntax}
 use Rattle.reader.specs.declared.parse.Start.{Start}
 use Rattle.reader.specs.declared.symbol.Symbol.{Symbol}
 use Rattle.reader.specs.Parsing.{start_of, outcome}
+use Rattle.reader.specs.Reading.{ending}
 use Rattle.reader.specs.Stacks.{Stacked}
+use Rattle.reader.specs.View.{row_of}
 use Rattle.reader.proofs.Checks.{sealed}
 use Rattle.reader.proofs.Turns.{begin, deep, found_proper, next_turn, refuses, no_token_lem, at_the_end}
 use Rattle.reader.proofs.parse.parse.Given as given
@@ -40,6 +46,15 @@ here g c = turn _ _ _ _ _ _ c.tokens.invariant.same_text c.next.ensures.steps c.
 
 done : (g : given.Over) (c : In-None g) → next_token c.args.text.now c.tokens.found-iterator.from ≡ at_end
 done g c = turn_end _ _ _ _ c.tokens.invariant.same_text c.next.ensures.steps c.in-None.is
+
+-- the answer at the text's end
+last_rank :
+    (o : Option (ArrayVec Symbol)) (m : Option ℕ) (rank place : ℕ) (Told : ArrayVec Symbol → ℕ → Type 0) →
+    ((row : ArrayVec Symbol) (n : ℕ) → Told row n → n ≡ rank) → MatchOption o (m ≡ None) (λ row. IsSomeAnd m (Told row)) →
+    ok_or m (Syntax place) ≡ outcome (ending (row_of o) place rank)
+last_rank None m rank place Told same e = ap (λ m. ok_or m (Syntax place)) e
+last_rank (Some row) (Some n) rank place Told same e = ap Ok (same row n e)
+last_rank (Some row) None rank place Told same e = elim e [ ]
 
 pub tokens-init : goal.tokens-init
 tokens-init g c =
@@ -99,12 +114,8 @@ tokens-preserved g c =
           row c.push_all-in-tokens.ensures (c.learned-rank.ensures g.C.Core.words));
     }
 
-pub returns-in-Some-expand-2 : goal.returns-in-Some-expand-2
-returns-in-Some-expand-2 g c =
+pub returns : goal.returns
+returns g c =
     let i = c.tokens.invariant in
-    ap outcome (sym (at_the_end _ _ _ _ _ _ _ _ i.goes_on i.inside c.pop.ensures _ (done g (goal.at.returns-in-Some-expand-2 g c).In-None) c.in-Some-expand-2.ensures))
-
-pub returns-in-None-expand : goal.returns-in-None-expand
-returns-in-None-expand g c =
-    let i = c.tokens.invariant in
-    ap outcome (sym (at_the_end _ _ _ _ _ _ _ _ i.goes_on i.inside c.pop.ensures _ (done g (goal.at.returns-in-None-expand g c).In-None) c.in-None-expand.ensures))
+    c.ok_or.ensures.value ∙ last_rank c.expand-2.result c.map.result c.tokens.rank _ _ (λ row n told. search (rules, tests)) c.map.ensures.cases
+    ∙ ap outcome (sym (at_the_end _ _ _ _ _ _ _ _ i.goes_on i.inside c.pop.ensures _ (done g (goal.at.returns g c).In-None) c.expand-2.ensures))
