@@ -111,6 +111,7 @@ fn module_rules(class: Class) -> &'static [Inherit]
     }
 }
 
+// Not one function with atom_rules: the specs name both, and they share no more than only_at.
 fn arguments_rules(class: Class) -> &'static [Inherit]
     ensures { result.now ≡ arguments_rules class }
 {

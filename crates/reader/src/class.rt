@@ -7,6 +7,7 @@ use cores::interface::Kind;
 use tokens::token::{Keyword, Mark};
 
 // One variant for each mark and keyword, then names, integers and core words by their number of parts or arguments.
+// One flat list: each class has its number by its place, and rows of the grammar name it.
 #[derive(Clone, Copy, PartialEq, Eq, Debug)]
 pub enum Class {
     Open,

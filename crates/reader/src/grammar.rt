@@ -1,6 +1,8 @@
 // The grammar: one function for each symbol. It tells what has to follow a token of a class where the symbol is to be read,
 // or None where the symbol cannot begin with such a token. All of them take constant time.
 // Symbols whose rows look alike keep functions of their own, each what specs/Grammar writes for it.
+// No table of data: its rows would need a hole for the context.
+// Context and class stay two parameters: a context is a part of some symbols alone.
 ghost use Rattle.std.specs.Prelude.{◌≡◌, ◌≤◌, [], ◌∷◌, length};
 ghost use Rattle.reader.specs.Grammar.{find, rows, expand, after_type_rows, after_module_rows, ◌⇒◌};
 ghost use Rattle.reader.specs.View.{row_of};
@@ -68,6 +70,7 @@ pub fn unit_end(c: Class) -> Option<Row>
 }
 
 // `end`, or an item and more
+// Not one function with specs: the row of `end` is all that they share.
 pub fn items(c: Class) -> Option<Row>
     ensures { row_of result ≡ expand Symbol.Items c }
 {
@@ -197,6 +200,7 @@ pub fn arguments(context: ModuleContext, c: Class) -> Option<Row>
 }
 
 // `)`, or `: signature )`
+// Not one function with type_end: the row of `)` is all that they share.
 pub fn module_end(c: Class) -> Option<Row>
     ensures { row_of result ≡ expand Symbol.ModuleEnd c }
 {

@@ -5,6 +5,8 @@ ghost use Rattle.reader.specs.Stacks.{Stacked, stacked};
 use super::symbol::Symbol;
 use std::marker::Model;
 
+// Words and depth by hand: the memory is lent, and no list of the library lies over lent words.
+// Not one type with Frames: the two share the depth alone.
 #[derive(Drop)]
 pub struct Stack<'s> {
     words: &'s mut [u32],
