@@ -34,10 +34,7 @@ impl Entry<'_> {
     fn is_component(self, sort: Sort, name: &[u8]) -> bool
         ensures { result ≡ is_component sort name.now self.entry.binder self.entry.name.now }
     {
-        match self.binder {
-            Binder::Component(s) => sort == s && name == self.name,
-            Binder::Itself | Binder::Parameter | Binder::Variable => false,
-        }
+        self.binder == Binder::Component(sort) && name == self.name
     }
 
     // Whether an entry is what this name of this sort is sought for. Linear in the name.
