@@ -30,10 +30,8 @@ pub fn place_of(symbol: Symbol, class: Class, frame: Frame) -> Place
 fn is_too_deep(symbol: Symbol, class: Class, place: Place) -> bool
     ensures { result ≡ nat_lt 12 (raised (extra symbol class) place.opened) }
 {
-    match extra_open(symbol, class) {
-        Some(n) => OPEN_LIMIT < place.opened.saturating_add(n),
-        None => OPEN_LIMIT < place.opened,
-    }
+    let extra = extra_open(symbol, class).unwrap_or(0);
+    OPEN_LIMIT < place.opened.saturating_add(extra)
 }
 
 // What a token is told.
@@ -137,10 +135,7 @@ impl Firsts {
         let deep = self.deep.map(ReadFault::TooDeep);
         let again = self.again.map(ReadFault::Redeclared);
         let missing = self.missing.map(ReadFault::Undeclared);
-        match deep.or(again).or(missing) {
-            Some(fault) => Err(fault),
-            None => Ok(()),
-        }
+        deep.or(again).or(missing).map_or(Ok(()), Err)
     }
 }
 

@@ -42,12 +42,12 @@ impl Entry<'_> {
         ensures { result ≡ is_sought sort name.now self.entry.binder self.entry.name.now }
     {
         let bound = match self.binder {
-            Binder::Itself => return false,
-            Binder::Component(s) => s,
-            Binder::Parameter => Sort::Module,
-            Binder::Variable => Sort::Value,
+            Binder::Itself => None,
+            Binder::Component(s) => Some(s),
+            Binder::Parameter => Some(Sort::Module),
+            Binder::Variable => Some(Sort::Value),
         };
-        sort == bound && name == self.name
+        bound == Some(sort) && name == self.name
     }
 }
 
