@@ -43,12 +43,11 @@ impl ReadFault {
         ensures { result ≡ fault_place self }
     {
         match self {
-            ReadFault::Scratch => None,
-            ReadFault::TooLong => None,
-            ReadFault::Syntax(p) => Some(p),
-            ReadFault::TooDeep(p) => Some(p),
-            ReadFault::Redeclared(p) => Some(p),
-            ReadFault::Undeclared(p) => Some(p),
+            ReadFault::Scratch | ReadFault::TooLong => None,
+            ReadFault::Syntax(p)
+            | ReadFault::TooDeep(p)
+            | ReadFault::Redeclared(p)
+            | ReadFault::Undeclared(p) => Some(p),
         }
     }
 }

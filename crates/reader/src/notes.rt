@@ -1,8 +1,8 @@
 // What a token is told in the second pass: how many are open at it, whether it declares a name again, whether it is a head
 // that is not declared; and what it enters into the scope.
-ghost use Rattle.std.specs.Prelude.{◌≡◌, ◌+◌, ◌^◌, ◌<◌, ◌≤◌, ◌&&◌, [], length, take, nat_le, nat_lt};
+ghost use Rattle.std.specs.Prelude.{◌≡◌, ◌+◌, ◌^◌, ◌<◌, ◌≤◌, ◌&&◌, [], ◌∷◌, ◌++◌, length, take, nat_le, nat_lt};
 ghost use Rattle.reader.specs.Annotate.{around, extra, raised, declaring, again_of, head_kind, head_of, is_missing, is_unit, is_lower, is_upper};
-ghost use Rattle.reader.specs.Firsts.{first_of, listed, Listing, span_of, ask_firsts, answered};
+ghost use Rattle.reader.specs.Firsts.{first_of, Listing, span_of, ask_firsts, answered};
 ghost use Rattle.reader.specs.Frames.{placed, attr_of};
 ghost use Rattle.reader.specs.Rows.{entries_of};
 
@@ -30,10 +30,8 @@ pub fn place_of(symbol: Symbol, class: Class, frame: Frame) -> Place
 fn is_too_deep(symbol: Symbol, class: Class, place: Place) -> bool
     ensures { result ≡ nat_lt 12 (raised (extra symbol class) place.opened) }
 {
-    match extra_open(symbol, class) {
-        Some(n) => OPEN_LIMIT < place.opened.saturating_add(n),
-        None => OPEN_LIMIT < place.opened,
-    }
+    let extra = extra_open(symbol, class).unwrap_or(0);
+    OPEN_LIMIT < place.opened.saturating_add(extra)
 }
 
 // What a token is told.
@@ -43,10 +41,24 @@ pub struct Note {
     pub deep: bool,
     // it declares a name again
     pub again: bool,
-    // it is a lower head that is not declared
-    pub missing: bool,
-    // it is a head that names a unit
-    pub unit: bool,
+    // the head that it is, if that is declared nowhere around
+    pub undeclared: Option<PathHead>,
+}
+
+impl Note {
+    // Whether it is a lower head that is not declared. Constant time.
+    fn is_missing(self) -> bool
+        ensures { result ≡ is_lower self.undeclared }
+    {
+        matches!(self.undeclared, Some(PathHead::Lower(_)))
+    }
+
+    // Whether it is a head that names a unit. Constant time.
+    pub fn is_unit(self) -> bool
+        ensures { result ≡ is_upper self.undeclared }
+    {
+        self.undeclared == Some(PathHead::Upper)
+    }
 }
 
 // Whether a token declares a name again. Linear in what its structure or signature has declared.
@@ -72,15 +84,13 @@ fn undeclared(scope: Scope<'_>, symbol: Symbol, class: Class, name: &[u8]) -> Op
 pub fn note_of(scope: Scope<'_>, place: Place, symbol: Symbol, class: Class, name: &[u8]) -> Note
     ensures deep { result.deep ≡ nat_lt 12 (raised (extra symbol class) place.opened) }
     ensures again { result.again ≡ again_of (declaring symbol) name.now (entries_of scope.entry) }
-    ensures missing { result.missing ≡ is_missing (head_of (head_kind symbol class) name.now (entries_of scope.entry)) }
-    ensures unit { result.unit ≡ is_unit (head_of (head_kind symbol class) name.now (entries_of scope.entry)) }
+    ensures missing { is_lower result.undeclared ≡ is_missing (head_of (head_kind symbol class) name.now (entries_of scope.entry)) }
+    ensures unit { is_upper result.undeclared ≡ is_unit (head_of (head_kind symbol class) name.now (entries_of scope.entry)) }
 {
-    let undeclared = undeclared(scope, symbol, class, name);
     Note {
         deep: is_too_deep(symbol, class, place),
         again: is_redeclared(scope, symbol, name),
-        missing: matches!(undeclared, Some(PathHead::Lower(_))),
-        unit: matches!(undeclared, Some(PathHead::Upper)),
+        undeclared: undeclared(scope, symbol, class, name),
     }
 }
 
@@ -119,14 +129,14 @@ impl Firsts {
     pub fn after(self, note: Note, at: usize, asked: usize) -> Firsts
         ensures deep { result.deep ≡ first_of self.deep note.deep at }
         ensures again { result.again ≡ first_of self.again note.again at }
-        ensures missing { result.missing ≡ first_of self.missing note.missing at }
-        ensures mention { result.mention ≡ first_of self.mention (note.unit && nat_le asked at) at }
+        ensures missing { result.missing ≡ first_of self.missing (is_lower note.undeclared) at }
+        ensures mention { result.mention ≡ first_of self.mention (is_upper note.undeclared && nat_le asked at) at }
     {
         Firsts {
             deep: first(self.deep, note.deep, at),
             again: first(self.again, note.again, at),
-            missing: first(self.missing, note.missing, at),
-            mention: first(self.mention, note.unit && asked <= at, at),
+            missing: first(self.missing, note.is_missing(), at),
+            mention: first(self.mention, note.is_unit() && asked <= at, at),
         }
     }
 
@@ -137,10 +147,7 @@ impl Firsts {
         let deep = self.deep.map(ReadFault::TooDeep);
         let again = self.again.map(ReadFault::Redeclared);
         let missing = self.missing.map(ReadFault::Undeclared);
-        match deep.or(again).or(missing) {
-            Some(fault) => Err(fault),
-            None => Ok(()),
-        }
+        deep.or(again).or(missing).map_or(Ok(()), Err)
     }
 }
 
@@ -167,16 +174,14 @@ impl<'s> Heads<'s> {
         Heads { words, count: 0 }
     }
 
-    // Lists a place behind the others, if it is wanted. Constant time.
-    pub fn list(&mut self, wanted: bool, place: usize)
+    // Lists a place behind the others. Constant time.
+    pub fn push(&mut self, place: usize)
         requires count_in_bounds { length self.old.places < self.old.room }
         requires place_bound { place < 2 ^ 32 }
-        ensures { self.new ≡ record { places = listed self.old.places wanted place; room = self.old.room } }
+        ensures { self.new ≡ record { places = self.old.places ++ place ∷ []; room = self.old.room } }
     {
-        if wanted {
-            self.words[self.count] = place as u32;
-            self.count += 1;
-        }
+        self.words[self.count] = place as u32;
+        self.count += 1;
     }
 
     // The places that are listed. Constant time.

@@ -57,10 +57,8 @@ fn name_at(text: &[u8], from: usize) -> Option<(&[u8], usize)>
 fn name_in(text: &[u8]) -> Option<(&[u8], usize)>
     ensures { named_at result ≡ name_in text.now }
 {
-    match next(text, 0) {
-        Ok(Some(first)) => name_at(text, first.end),
-        Ok(None) | Err(_) => None,
-    }
+    let first = next(text, 0).ok()??;
+    name_at(text, first.end)
 }
 
 // What is learned of a text that reads.

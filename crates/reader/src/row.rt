@@ -34,10 +34,7 @@ impl Entry<'_> {
     fn is_component(self, sort: Sort, name: &[u8]) -> bool
         ensures { result ≡ is_component sort name.now self.entry.binder self.entry.name.now }
     {
-        match self.binder {
-            Binder::Component(s) => sort == s && name == self.name,
-            Binder::Itself | Binder::Parameter | Binder::Variable => false,
-        }
+        self.binder == Binder::Component(sort) && name == self.name
     }
 
     // Whether an entry is what this name of this sort is sought for. Linear in the name.
@@ -45,12 +42,12 @@ impl Entry<'_> {
         ensures { result ≡ is_sought sort name.now self.entry.binder self.entry.name.now }
     {
         let bound = match self.binder {
-            Binder::Itself => return false,
-            Binder::Component(s) => s,
-            Binder::Parameter => Sort::Module,
-            Binder::Variable => Sort::Value,
+            Binder::Itself => None,
+            Binder::Component(s) => Some(s),
+            Binder::Parameter => Some(Sort::Module),
+            Binder::Variable => Some(Sort::Value),
         };
-        sort == bound && name == self.name
+        bound == Some(sort) && name == self.name
     }
 }
 

@@ -58,7 +58,9 @@ pub fn go_through<'s, C: Core>(
         let scope = entries.scope(text, place.scope);
         let note = note_of(scope, place, symbol, class, part(text, from, end));
         firsts = firsts.after(note, found.place, asked);
-        heads.list(note.unit, found.place);
+        if note.is_unit() {
+            heads.push(found.place);
+        }
         let new = entries.enter(
             introduced(symbol, class),
             place.scope,

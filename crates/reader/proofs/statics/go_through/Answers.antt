@@ -16,7 +16,7 @@ use Rattle.reader.proofs.Places.{span_low, place_low}
 use Rattle.reader.proofs.Turns.{found_proper}
 use Rattle.reader.proofs.statics.go_through.Given as given
 use Rattle.reader.proofs.statics.go_through.Goals as goal
-use Rattle.reader.proofs.statics.go_through.Goals.{In_ok-found, In-None}
+use Rattle.reader.proofs.statics.go_through.Goals.{In_ok-found, In-None, then-is_unit, else-is_unit}
 
 -- the token of this turn
 here : (g : given.Over) (c : In_ok-found g) → Turn c.args.text.now c.tokens.found-iterator c.next.new.self c.in_ok-found.found
@@ -62,9 +62,9 @@ returns-in_default g c =
     let t = here g (goal.at.returns-in_default g c).In_ok-found in
     absurd (never_stuck _ _ _ _ _ _ _ _ _ _ c.tokens.invariant.pass c.requires.accepted _ _ _ c.pop-symbol.ensures _ _ _ _ t.next c.class_of-class.ensures c.in_default.ensures)
 
-pub list-requires-clause-place_bound : goal.list-requires-clause-place_bound
-list-requires-clause-place_bound g c =
-    let t = here g (goal.at.list-requires-clause-place_bound g c).In_ok-found in
+pub push-requires-clause-place_bound : goal.push-requires-clause-place_bound
+push-requires-clause-place_bound g c =
+    let t = here g (goal.at.push-requires-clause-place_bound g c).In_ok-found in
     let adv = advance c.args.text.now c.tokens.found-iterator.from c.in_ok-found.found.place c.in_ok-found.found.end (view c.in_ok-found.found.token) t.next in
     let low = place_low c.args.text.now c.tokens.found-iterator.from c.in_ok-found.found.place c.in_ok-found.found.end (view c.in_ok-found.found.token) t.next in
     omega (arith, low, adv.inside, c.requires.text_len_bound)
@@ -114,17 +114,21 @@ tokens-preserved g c =
     let scope = c.scope-scope.ensures in
     let missing = c.note_of-note.ensures.missing ∙ ap (λ (x : Scope). is_missing (head_of (head_kind symbol class) name x)) scope in
     let unit = c.note_of-note.ensures.unit ∙ ap (λ (x : Scope). is_unit (head_of (head_kind symbol class) name x)) scope in
+    let listing : (c.if-is_unit.heads.places ≡ listed c.tokens.heads.places c.is_unit.result place) × (c.if-is_unit.heads.room ≡ c.tokens.heads.room) = elim c.if-is_unit.branch [
+      | then-is_unit b ↦ rw b.if-is_unit.true (ap (λ (v : Listing). v.places) (b.heads-is ∙ b.push.ensures), ap (λ (v : Listing). v.room) (b.heads-is ∙ b.push.ensures))
+      | else-is_unit b ↦ rw b.if-is_unit.false (ap (λ (v : Listing). v.places) b.heads-is, ap (λ (v : Listing). v.room) b.heads-is)
+    ] in
     record {
       same_text = t.same_text;
       pass = rw t.behind (turned _ _ _ _ _ _ _ _ _ _ i.pass c.requires.accepted _ _ _ c.pop-symbol.ensures _ _ _ _ t.next c.class_of-class.ensures c.deref.result.now row
           c.place_of-place.result c.place_of-place.ensures c.span-from.result c.span-from.ensures name c.part.ensures c.enter-new.new.self.words c.enter-new.result c.enter-new.new.self.count
-          c.after-firsts.result c.list.new.self.places
+          c.after-firsts.result c.if-is_unit.heads.places
           (rw (sym c.introduced.ensures) c.enter-new.ensures.entered)
           (after_note c.tokens.firsts.deep place c.after-firsts.ensures.deep c.note_of-note.ensures.deep)
           (after_note c.tokens.firsts.again place c.after-firsts.ensures.again (c.note_of-note.ensures.again ∙ ap (again_of (declaring symbol) name) scope))
           (after_note c.tokens.firsts.missing place c.after-firsts.ensures.missing missing)
           (after_note c.tokens.firsts.mention place c.after-firsts.ensures.mention (ap (λ (b : Bool). b && leb c.args.asked place) unit))
-          (ap (λ (v : Listing). v.places) c.list.ensures ∙ ap (λ (b : Bool). listed c.tokens.heads.places b place) unit)
+          (listing.0 ∙ ap (λ (b : Bool). listed c.tokens.heads.places b place) (c.is_unit.ensures ∙ unit))
           c.push_all-in-tokens.new.self
           (c.push_all-in-tokens.ensures
           ∙ ap (λ (rs : List Inherit). record {
@@ -134,7 +138,7 @@ tokens-preserved g c =
           }) c.rules_of.ensures));
       frames_room = ap (λ (v : Framed). v.room) c.push_all-in-tokens.ensures ∙ sym (ap (λ (v : Framed). v.room) c.pop-symbol.ensures) ∙ i.frames_room;
       entries_room = c.enter-new.ensures.room ∙ i.entries_room;
-      heads_room = ap (λ (v : Listing). v.room) c.list.ensures ∙ i.heads_room;
+      heads_room = listing.1 ∙ i.heads_room;
     }
 
 pub returns : goal.returns
