@@ -7,17 +7,11 @@ use super::class::Class;
 use super::scope::{Binder, Inherit, PathHead, Sort};
 use super::symbol::Symbol;
 
-// Whether a token of this class, read for this symbol, belongs to what follows a type or a module.
-pub fn is_outside(symbol: Symbol, class: Class) -> bool
-    ensures { result ≡ is_outside symbol class }
-{
-    match symbol {
-        Symbol::Path(_) => !matches!(class, Class::Dot | Class::Open),
-        Symbol::Arguments(_) => !matches!(class, Class::Open),
-        Symbol::Labels(_) => !matches!(class, Class::Label1),
-        Symbol::TypeSpecEnd => !matches!(class, Class::Equals),
-        _ => false,
-    }
+// A token's class, and the symbol for which the token is read.
+#[derive(Clone, Copy, PartialEq, Eq, Debug)]
+pub struct Met {
+    pub symbol: Symbol,
+    pub class: Class,
 }
 
 // How many more are open from a token on.
@@ -27,24 +21,6 @@ fn opens(class: Class) -> Option<u32>
 {
     match class {
         Class::Open | Class::Struct | Class::Sig | Class::Functor | Class::Fun => Some(1),
-        _ => None,
-    }
-}
-
-// How many more are open at a token than around it.
-pub fn extra_open(symbol: Symbol, class: Class) -> Option<u32>
-    ensures value { result ≡ extra symbol class }
-    ensures small { IfSome result (λ n. n ≤ 2) }
-{
-    match symbol {
-        Symbol::Module(_)
-        | Symbol::Path(_)
-        | Symbol::Arguments(_)
-        | Symbol::Signature
-        | Symbol::Term
-        | Symbol::Atom
-        | Symbol::Type(_) => opens(class),
-        Symbol::Parameter(_) | Symbol::SignatureParameter | Symbol::Variable => Some(2),
         _ => None,
     }
 }
@@ -69,34 +45,6 @@ fn path_head(sort: Sort, class: Class) -> Option<PathHead>
         Class::Lower => Some(PathHead::Lower(sort)),
         Class::Upper => Some(PathHead::Upper),
         _ => None,
-    }
-}
-
-// What a token is as a head, if it is one.
-pub fn head_kind(symbol: Symbol, class: Class) -> Option<PathHead>
-    ensures { result ≡ head_kind symbol class }
-{
-    match symbol {
-        Symbol::Type(_) => path_head(Sort::Type, class),
-        Symbol::Term | Symbol::Atom => path_head(Sort::Value, class),
-        Symbol::Module(_) | Symbol::Argument => match class {
-            Class::Upper => Some(PathHead::Upper),
-            _ => None,
-        },
-        _ => None,
-    }
-}
-
-// What a token enters into the scope.
-pub fn introduced(symbol: Symbol, class: Class) -> Option<Binder>
-    ensures { result ≡ introduces symbol class }
-{
-    match (symbol, class) {
-        (Symbol::Unit, _) | (Symbol::Module(_), Class::Struct) | (Symbol::Signature, Class::Sig) =>
-            { Some(Binder::Itself) }
-        (Symbol::Parameter(_) | Symbol::SignatureParameter, _) => Some(Binder::Parameter),
-        (Symbol::Variable, _) => Some(Binder::Variable),
-        _ => declared_sort(symbol).map(Binder::Component),
     }
 }
 
@@ -151,63 +99,129 @@ fn only_at(wanted: Class, class: Class, rules: &'static [Inherit]) -> &'static [
     if class == wanted { rules } else { &[] }
 }
 
-// What each symbol that follows gets; those that are not named get what holds at the token.
-pub fn rules_of(symbol: Symbol, class: Class) -> &'static [Inherit]
-    ensures { result.now ≡ rules symbol class }
-{
-    match symbol {
-        Symbol::Unit => &[
-            Inherit::Here,
-            Inherit::Here,
-            Inherit::Inside,
-            Inherit::Opened,
-        ],
-        Symbol::TypeItem | Symbol::ModuleItem | Symbol::ValueSpec => &[
-            Inherit::Here,
-            Inherit::Declared,
-        ],
-        Symbol::ValueItem | Symbol::ModuleSpec => &[Inherit::Here, Inherit::Here, Inherit::Entered],
-        Symbol::TypeSpec => &[Inherit::Declared],
-        Symbol::Module(_) => module_rules(class),
-        Symbol::Parameter(_) => {
-            &[
-                Inherit::Bracket,
-                Inherit::Bracket,
-                Inherit::Bracket,
-                Inherit::Inside,
-                Inherit::Body,
-            ]
+impl Met {
+    // Whether the token belongs to what follows a type or a module.
+    pub fn is_outside(self) -> bool
+        ensures { result ≡ is_outside self.symbol self.class }
+    {
+        match self.symbol {
+            Symbol::Path(_) => !matches!(self.class, Class::Dot | Class::Open),
+            Symbol::Arguments(_) => !matches!(self.class, Class::Open),
+            Symbol::Labels(_) => !matches!(self.class, Class::Label1),
+            Symbol::TypeSpecEnd => !matches!(self.class, Class::Equals),
+            _ => false,
         }
-        Symbol::SignatureParameter => {
-            &[
-                Inherit::Bracket,
+    }
+
+    // How many more are open at the token than around it.
+    pub fn extra_open(self) -> Option<u32>
+        ensures value { result ≡ extra self.symbol self.class }
+        ensures small { IfSome result (λ n. n ≤ 2) }
+    {
+        match self.symbol {
+            Symbol::Module(_)
+            | Symbol::Path(_)
+            | Symbol::Arguments(_)
+            | Symbol::Signature
+            | Symbol::Term
+            | Symbol::Atom
+            | Symbol::Type(_) => opens(self.class),
+            Symbol::Parameter(_) | Symbol::SignatureParameter | Symbol::Variable => Some(2),
+            _ => None,
+        }
+    }
+
+    // What the token is as a head, if it is one.
+    pub fn head_kind(self) -> Option<PathHead>
+        ensures { result ≡ head_kind self.symbol self.class }
+    {
+        match self.symbol {
+            Symbol::Type(_) => path_head(Sort::Type, self.class),
+            Symbol::Term | Symbol::Atom => path_head(Sort::Value, self.class),
+            Symbol::Module(_) | Symbol::Argument => match self.class {
+                Class::Upper => Some(PathHead::Upper),
+                _ => None,
+            },
+            _ => None,
+        }
+    }
+
+    // What the token enters into the scope.
+    pub fn introduced(self) -> Option<Binder>
+        ensures { result ≡ introduces self.symbol self.class }
+    {
+        match (self.symbol, self.class) {
+            (Symbol::Unit, _)
+            | (Symbol::Module(_), Class::Struct)
+            | (Symbol::Signature, Class::Sig) => { Some(Binder::Itself) }
+            (Symbol::Parameter(_) | Symbol::SignatureParameter, _) => Some(Binder::Parameter),
+            (Symbol::Variable, _) => Some(Binder::Variable),
+            _ => declared_sort(self.symbol).map(Binder::Component),
+        }
+    }
+
+    // What each symbol that follows gets; those that are not named get what holds at the token.
+    pub fn rules(self) -> &'static [Inherit]
+        ensures { result.now ≡ rules self.symbol self.class }
+    {
+        match self.symbol {
+            Symbol::Unit => &[
+                Inherit::Here,
+                Inherit::Here,
+                Inherit::Inside,
+                Inherit::Opened,
+            ],
+            Symbol::TypeItem | Symbol::ModuleItem | Symbol::ValueSpec => &[
+                Inherit::Here,
+                Inherit::Declared,
+            ],
+            Symbol::ValueItem | Symbol::ModuleSpec => &[
+                Inherit::Here,
+                Inherit::Here,
+                Inherit::Entered,
+            ],
+            Symbol::TypeSpec => &[Inherit::Declared],
+            Symbol::Module(_) => module_rules(self.class),
+            Symbol::Parameter(_) => {
+                &[
+                    Inherit::Bracket,
+                    Inherit::Bracket,
+                    Inherit::Bracket,
+                    Inherit::Inside,
+                    Inherit::Body,
+                ]
+            }
+            Symbol::SignatureParameter => {
+                &[
+                    Inherit::Bracket,
+                    Inherit::Bracket,
+                    Inherit::Bracket,
+                    Inherit::Inside,
+                    Inherit::Opened,
+                ]
+            }
+            Symbol::Variable => &[
                 Inherit::Bracket,
                 Inherit::Bracket,
                 Inherit::Inside,
                 Inherit::Opened,
-            ]
+            ],
+            Symbol::Path(_) => match self.class {
+                Class::Dot => &[Inherit::Same],
+                _ => arguments_rules(self.class),
+            },
+            Symbol::PathName(_) => &[Inherit::Same],
+            Symbol::Arguments(_) => arguments_rules(self.class),
+            Symbol::Signature => signature_rules(self.class),
+            Symbol::TypeSpecEnd => only_at(Class::Equals, self.class, &[Inherit::Same]),
+            Symbol::Labels(_) => only_at(Class::Label1, self.class, &[Inherit::Same]),
+            Symbol::Term => match self.class {
+                Class::Fun => &[Inherit::Bracket],
+                _ => atom_rules(self.class),
+            },
+            Symbol::Atom => atom_rules(self.class),
+            Symbol::Type(_) => type_rules(self.class),
+            _ => &[],
         }
-        Symbol::Variable => &[
-            Inherit::Bracket,
-            Inherit::Bracket,
-            Inherit::Inside,
-            Inherit::Opened,
-        ],
-        Symbol::Path(_) => match class {
-            Class::Dot => &[Inherit::Same],
-            _ => arguments_rules(class),
-        },
-        Symbol::PathName(_) => &[Inherit::Same],
-        Symbol::Arguments(_) => arguments_rules(class),
-        Symbol::Signature => signature_rules(class),
-        Symbol::TypeSpecEnd => only_at(Class::Equals, class, &[Inherit::Same]),
-        Symbol::Labels(_) => only_at(Class::Label1, class, &[Inherit::Same]),
-        Symbol::Term => match class {
-            Class::Fun => &[Inherit::Bracket],
-            _ => atom_rules(class),
-        },
-        Symbol::Atom => atom_rules(class),
-        Symbol::Type(_) => type_rules(class),
-        _ => &[],
     }
 }

@@ -6,7 +6,7 @@ ghost use Rattle.reader.specs.Firsts.{first_of, Listing, span_of, ask_firsts, an
 ghost use Rattle.reader.specs.Frames.{placed, attr_of};
 ghost use Rattle.reader.specs.Rows.{entries_of};
 
-use super::attributes::{declared_sort, extra_open, head_kind, is_outside};
+use super::attributes::{Met, declared_sort};
 use super::class::Class;
 use super::fault::ReadFault;
 use super::frame::{Frame, Place};
@@ -16,10 +16,10 @@ use super::symbol::Symbol;
 use std::marker::Model;
 
 // What surrounds a token that is read for a symbol. Constant time.
-pub fn place_of(symbol: Symbol, class: Class, frame: Frame) -> Place
-    ensures { placed result ≡ around symbol class (attr_of frame) }
+pub fn place_of(met: Met, frame: Frame) -> Place
+    ensures { placed result ≡ around met.symbol met.class (attr_of frame) }
 {
-    if is_outside(symbol, class) {
+    if met.is_outside() {
         frame.outer
     } else {
         frame.inner
@@ -27,10 +27,10 @@ pub fn place_of(symbol: Symbol, class: Class, frame: Frame) -> Place
 }
 
 // Whether too much is open at a token. Constant time.
-fn is_too_deep(symbol: Symbol, class: Class, place: Place) -> bool
-    ensures { result ≡ nat_lt 12 (raised (extra symbol class) place.opened) }
+fn is_too_deep(met: Met, place: Place) -> bool
+    ensures { result ≡ nat_lt 12 (raised (extra met.symbol met.class) place.opened) }
 {
-    let extra = extra_open(symbol, class).unwrap_or(0);
+    let extra = met.extra_open().unwrap_or(0);
     OPEN_LIMIT < place.opened.saturating_add(extra)
 }
 
@@ -72,25 +72,25 @@ fn is_redeclared(scope: Scope<'_>, symbol: Symbol, name: &[u8]) -> bool
 }
 
 // The head that a token is, if it is declared nowhere around: an upper one names a unit. Linear in what is declared around it.
-fn undeclared(scope: Scope<'_>, symbol: Symbol, class: Class, name: &[u8]) -> Option<PathHead>
-    ensures missing { is_lower result ≡ is_missing (head_of (head_kind symbol class) name.now (entries_of scope.entry)) }
-    ensures unit { is_upper result ≡ is_unit (head_of (head_kind symbol class) name.now (entries_of scope.entry)) }
+fn undeclared(scope: Scope<'_>, met: Met, name: &[u8]) -> Option<PathHead>
+    ensures missing { is_lower result ≡ is_missing (head_of (head_kind met.symbol met.class) name.now (entries_of scope.entry)) }
+    ensures unit { is_upper result ≡ is_unit (head_of (head_kind met.symbol met.class) name.now (entries_of scope.entry)) }
 {
-    let head = head_kind(symbol, class)?;
+    let head = met.head_kind()?;
     scope.is_nowhere(head.sort(), name).then_some(head)
 }
 
 // What a token is told. Linear in what is declared around it.
-pub fn note_of(scope: Scope<'_>, place: Place, symbol: Symbol, class: Class, name: &[u8]) -> Note
-    ensures deep { result.deep ≡ nat_lt 12 (raised (extra symbol class) place.opened) }
-    ensures again { result.again ≡ again_of (declaring symbol) name.now (entries_of scope.entry) }
-    ensures missing { is_lower result.undeclared ≡ is_missing (head_of (head_kind symbol class) name.now (entries_of scope.entry)) }
-    ensures unit { is_upper result.undeclared ≡ is_unit (head_of (head_kind symbol class) name.now (entries_of scope.entry)) }
+pub fn note_of(scope: Scope<'_>, place: Place, met: Met, name: &[u8]) -> Note
+    ensures deep { result.deep ≡ nat_lt 12 (raised (extra met.symbol met.class) place.opened) }
+    ensures again { result.again ≡ again_of (declaring met.symbol) name.now (entries_of scope.entry) }
+    ensures missing { is_lower result.undeclared ≡ is_missing (head_of (head_kind met.symbol met.class) name.now (entries_of scope.entry)) }
+    ensures unit { is_upper result.undeclared ≡ is_unit (head_of (head_kind met.symbol met.class) name.now (entries_of scope.entry)) }
 {
     Note {
-        deep: is_too_deep(symbol, class, place),
-        again: is_redeclared(scope, symbol, name),
-        undeclared: undeclared(scope, symbol, class, name),
+        deep: is_too_deep(met, place),
+        again: is_redeclared(scope, met.symbol, name),
+        undeclared: undeclared(scope, met, name),
     }
 }
 

@@ -6,7 +6,7 @@ ghost use Rattle.reader.specs.Parsing.{start_of, is_accepted};
 ghost use Rattle.reader.specs.Reading.{reads, default_rank};
 ghost use Rattle.reader.specs.Streams.{stream_of};
 
-use super::attributes::{introduced, rules_of};
+use super::attributes::Met;
 use super::class::Class;
 use super::classify::class_of;
 use super::fault::ReadFault;
@@ -53,26 +53,26 @@ pub fn go_through<'s, C: Core>(
         let Some(after) = expand(symbol, class) else {
             return Err(ReadFault::Syntax(found.place));
         };
-        let place = place_of(symbol, class, frame);
+        let met = Met { symbol, class };
+        let place = place_of(met, frame);
         let (from, end) = span(class, found.place, found.end);
         let scope = entries.scope(text, place.scope);
-        let note = note_of(scope, place, symbol, class, part(text, from, end));
+        let note = note_of(scope, place, met, part(text, from, end));
         firsts = firsts.after(note, found.place, asked);
         if note.is_unit() {
             heads.push(found.place);
         }
-        let new = entries.enter(
-            introduced(symbol, class),
-            place.scope,
-            from as u32,
-            end as u32,
-        );
+        let new = entries.enter(met.introduced(), place.scope, from as u32, end as u32);
         let origin = Origin { frame, place, new };
-        frames.push_all(&after, rules_of(symbol, class), origin);
+        frames.push_all(&after, met.rules(), origin);
     }
     let (last, frame) = frames.pop();
-    let place = place_of(last, Class::TextEnd, frame);
+    let met = Met {
+        symbol: last,
+        class: Class::TextEnd,
+    };
+    let place = place_of(met, frame);
     let scope = entries.scope(text, place.scope);
-    let note = note_of(scope, place, last, Class::TextEnd, &[]);
+    let note = note_of(scope, place, met, &[]);
     Ok((firsts.after(note, text.len(), asked), heads.into_places()))
 }

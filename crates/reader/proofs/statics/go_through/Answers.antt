@@ -135,7 +135,7 @@ tokens-preserved g c =
             symbols = c.deref.result.now ++ c.pop-symbol.new.self.symbols;
             attrs = inherits c.deref.result.now rs (attr_of c.pop-symbol.result.1) (placed c.place_of-place.result) c.enter-new.result ++ c.pop-symbol.new.self.attrs;
             room = c.pop-symbol.new.self.room;
-          }) c.rules_of.ensures));
+          }) c.rules.ensures));
       frames_room = ap (λ (v : Framed). v.room) c.push_all-in-tokens.ensures ∙ sym (ap (λ (v : Framed). v.room) c.pop-symbol.ensures) ∙ i.frames_room;
       entries_room = c.enter-new.ensures.room ∙ i.entries_room;
       heads_room = listing.1 ∙ i.heads_room;
