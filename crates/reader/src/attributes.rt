@@ -106,9 +106,9 @@ impl Met {
     {
         match self.symbol {
             Symbol::Path(_) => !matches!(self.class, Class::Dot | Class::Open),
-            Symbol::Arguments(_) => !matches!(self.class, Class::Open),
-            Symbol::Labels(_) => !matches!(self.class, Class::Label1),
-            Symbol::TypeSpecEnd => !matches!(self.class, Class::Equals),
+            Symbol::Arguments(_) => self.class != Class::Open,
+            Symbol::Labels(_) => self.class != Class::Label1,
+            Symbol::TypeSpecEnd => self.class != Class::Equals,
             _ => false,
         }
     }
@@ -138,10 +138,9 @@ impl Met {
         match self.symbol {
             Symbol::Type(_) => path_head(Sort::Type, self.class),
             Symbol::Term | Symbol::Atom => path_head(Sort::Value, self.class),
-            Symbol::Module(_) | Symbol::Argument => match self.class {
-                Class::Upper => Some(PathHead::Upper),
-                _ => None,
-            },
+            Symbol::Module(_) | Symbol::Argument => {
+                (self.class == Class::Upper).then_some(PathHead::Upper)
+            }
             _ => None,
         }
     }
