@@ -170,11 +170,8 @@ inherits_at (s ∷ after) (r ∷ rs) a x new zero z h = refl
 inherits_at (s ∷ after) (r ∷ rs) a x new (suc i) z h = inherits_at after rs a x new i z (omega arith)
 
 -- one frame more of those that are pushed
-pub frames_more : {X : Type 0} (xs below : List X) (z x : X) (left : ℕ) (now' now : List X) → 0 < left → left ≤ length xs →
-    x ≡ get_or xs (left - 1) z → now' ≡ x ∷ now → now ≡ drop left xs ++ below → now' ≡ drop (left - 1) xs ++ below
-frames_more {X} xs below z x left now' now some within is push so =
-    let lt : left - 1 < length xs = omega arith in
-    let up : left ≡ left - 1 + 1 = omega arith in
-    push ∙ ap (λ (y : X). y ∷ now) is ∙ ap (λ (ys : List X). get_or xs (left - 1) z ∷ ys) so
-    ∙ ap (λ (n : ℕ). (get_or xs (left - 1) z ∷ drop n xs) ++ below) up
-    ∙ ap (λ (ys : List X). ys ++ below) (sym (drop_more xs (left - 1) z lt))
+pub frames_more : {X : Type 0} (xs below : List X) (z x : X) (left : ℕ) (now' now : List X) → left < length xs →
+    x ≡ get_or xs left z → now' ≡ x ∷ now → now ≡ drop (left + 1) xs ++ below → now' ≡ drop left xs ++ below
+frames_more {X} xs below z x left now' now within is push so =
+    push ∙ ap (λ (y : X). y ∷ now) is ∙ ap (λ (ys : List X). get_or xs left z ∷ ys) so
+    ∙ ap (λ (ys : List X). ys ++ below) (sym (drop_more xs left z within))

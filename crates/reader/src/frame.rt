@@ -107,6 +107,7 @@ fn rule_at(rules: &[Inherit], i: usize) -> Inherit
 }
 
 // Writes the frame at a place. Constant time.
+// Word by word: chunks of five would leave words over at the end, and the room of a stack is counted in words.
 fn write_frame(words: &mut [u32], i: usize, symbol: Symbol, frame: Frame)
     requires { 5 * i + 5 ≤ length words.old }
     ensures { words.new ≡ five_at words.old i (symbol_number symbol) frame.inner.opened frame.inner.scope frame.outer.opened frame.outer.scope }
@@ -138,6 +139,7 @@ fn read_frame(words: &[u32], i: usize) -> (Symbol, Frame)
 }
 
 // A stack of frames, five words for each.
+// Words and depth by hand: the memory is lent, and no list of the library lies over lent words.
 #[derive(Drop)]
 pub struct Frames<'s> {
     words: &'s mut [u32],
@@ -194,9 +196,9 @@ impl<'s> Frames<'s> {
         requires { 5 * (length after.now + length self.old.symbols) ≤ self.old.room }
         ensures { self.new ≡ record { symbols = after.now ++ self.old.symbols; attrs = inherits after.now rules.now (attr_of origin.frame) (placed origin.place) origin.new ++ self.old.attrs; room = self.old.room } }
     {
-        // By index: there may be fewer rules than symbols, and a zip with rules added at the end has no reverse.
-        'push: for i in (0..after.len()).rev() {
-            self.push(after[i], origin.inherit(rule_at(rules, i)));
+        // With its number: there may be fewer rules than symbols, and a zip with rules added at the end has no reverse.
+        'push: for (i, &symbol) in after.iter().enumerate().rev() {
+            self.push(symbol, origin.inherit(rule_at(rules, i)));
         }
     }
 }

@@ -62,6 +62,7 @@ impl Note {
 }
 
 // Whether a token declares a name again. Linear in what its structure or signature has declared.
+// not is_some_and: its closure hides what is_declared answers
 fn is_redeclared(scope: Scope<'_>, symbol: Symbol, name: &[u8]) -> bool
     ensures { result ≡ again_of (declaring symbol) name.now (entries_of scope.entry) }
 {
@@ -81,6 +82,7 @@ fn undeclared(scope: Scope<'_>, met: Met, name: &[u8]) -> Option<PathHead>
 }
 
 // What a token is told. Linear in what is declared around it.
+// Scope, what is met and its name stay three parameters: they are handed on as they are given, to two functions only.
 pub fn note_of(scope: Scope<'_>, place: Place, met: Met, name: &[u8]) -> Note
     ensures deep { result.deep ≡ nat_lt 12 (raised (extra met.symbol met.class) place.opened) }
     ensures again { result.again ≡ again_of (declaring met.symbol) name.now (entries_of scope.entry) }
@@ -95,6 +97,7 @@ pub fn note_of(scope: Scope<'_>, place: Place, met: Met, name: &[u8]) -> Note
 }
 
 // The first place so far: the old one, or this one if it is bad. Constant time.
+// A test and a place, as the definition takes them: one place serves four tests.
 pub fn first(old: Option<usize>, bad: bool, place: usize) -> Option<usize>
     ensures { result ≡ first_of old bad place }
 {
@@ -102,6 +105,7 @@ pub fn first(old: Option<usize>, bad: bool, place: usize) -> Option<usize>
 }
 
 // The part of the text that is a token's name; an empty one where it is no name. Constant time.
+// Two numbers and no range: they are kept as two words of an entry.
 pub fn span(class: Class, place: usize, end: usize) -> (usize, usize)
     ensures { result ≡ span_of class place end }
 {
@@ -152,6 +156,7 @@ impl Firsts {
 }
 
 // The places of heads that name units, listed in lent words.
+// Words and count by hand: the memory is lent, and no list of the library lies over lent words.
 #[derive(Drop)]
 pub struct Heads<'s> {
     words: &'s mut [u32],

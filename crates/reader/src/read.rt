@@ -21,6 +21,8 @@ use cores::interface::Core;
 use tokens::lexer::{Placed, next};
 use tokens::token::Token;
 
+// Core, text and scratch stay parameters of their own below: no value holds a core and the lent memory together.
+
 // The words of scratch that reading is lent.
 pub const SCRATCH_WORDS: usize = 65_536;
 

@@ -1,4 +1,6 @@
 // Scopes in lent words: a row of entries of four words, each with the number of the entry around it.
+// By number: many scopes share the entries around them, and without a heap there are no shared nodes.
+// Word by word: the definitions take a row as words, however many there are.
 ghost use Rattle.std.specs.Prelude.{◌≡◌, ◌+◌, ◌*◌, ◌^◌, ◌<◌, ◌≤◌, length, slice_index};
 ghost use Rattle.reader.specs.Firsts.{EnteredRow};
 ghost use Rattle.reader.specs.Frames.{four_at};
@@ -29,6 +31,7 @@ pub struct Entry<'a> {
     pub name: &'a [u8],
 }
 
+// Sort and name stay two parameters: each test takes them apart.
 impl Entry<'_> {
     // Whether an entry declares this name in this sort. Linear in the name.
     fn is_component(self, sort: Sort, name: &[u8]) -> bool
@@ -131,6 +134,7 @@ fn append(words: &mut [u32], count: u32, binder: Binder, parent: u32, from: u32,
 }
 
 // The entries made so far, in lent words.
+// Words and count by hand: the memory is lent, and no list of the library lies over lent words.
 #[derive(Drop)]
 pub struct Entries<'s> {
     words: &'s mut [u32],

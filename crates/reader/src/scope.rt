@@ -43,6 +43,7 @@ impl From<Binder> for u32 {
 }
 
 // The binder of a number; each number from 5 on stands for a variable. Constant time.
+// From and no TryFrom: only numbers that were written from a binder stand in the words.
 impl From<u32> for Binder {
     ghost use Rattle.std.specs.Prelude.{◌≡◌};
     ghost use Rattle.reader.specs.Rows.{binder_at};

@@ -27,6 +27,7 @@ const ROW_WORDS: usize = 16_384;
 // Goes through a text that reads, and tells the first places where too much is open, where a name is declared again, where a lower
 // head is not declared, and where, at or behind a place, a head names a unit; and the places of all heads that name units.
 // Linear in the text times what is declared around its names.
+// A loop like that of `parse`: this one asks only about a text that reads, and keeps more than a symbol.
 pub fn go_through<'s, C: Core>(
     core: &C,
     text: &[u8],
@@ -66,6 +67,7 @@ pub fn go_through<'s, C: Core>(
         let origin = Origin { frame, place, new };
         frames.push_all(&after, met.rules(), origin);
     }
+    // The text's end is no token, so its note is taken by itself.
     let (last, frame) = frames.pop();
     let met = Met {
         symbol: last,
