@@ -41,7 +41,7 @@ pub(crate) fn missing(units: &[Unit<'_>]) -> Option<usize>
 fn needs(units: &[Unit<'_>], i: usize) -> u16
     ensures { result ≡ (slice_index_or units.now i nobody).needs }
 {
-    units.get(i).map_or(0, |unit| unit.needs)
+    units.get(i).copied().unwrap_or_default().needs
 }
 
 /// What each unit names. A step for each of 16 places.

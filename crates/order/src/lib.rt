@@ -30,7 +30,7 @@ use std::marker::Model;
 pub const MOST: usize = 16;
 
 /// A unit as the load order sees it. Units go by their places in a slice, from 0.
-#[derive(Clone, Copy, PartialEq, Eq, Debug)]
+#[derive(Clone, Copy, PartialEq, Eq, Debug, Default)]
 pub struct Unit<'a> {
     pub rank: u8,
     pub name: &'a [u8],
