@@ -26,6 +26,7 @@ use marks::with;
 pub use picking::{pick, ready};
 use std::marker::Model;
 
+// Said here and in the store, as its `MOST_UNITS`: here it is how many bits a `u16` has, and neither crate needs the other.
 /// Units at most: one bit of a `u16` for each.
 pub const MOST: usize = 16;
 
