@@ -44,6 +44,7 @@ fn type_word<C: Core>(core: &C, name: &str) -> Option<u32> {
     u32::try_from(node).ok()
 }
 
+// Texts and no Display, here and below: a table answers with words of its own where a question has no type.
 // A word's name with its kind and number, if the core has it.
 pub fn word_text<C: Core>(
     heap: Global,

@@ -41,10 +41,7 @@ pub(crate) fn missing(units: &[Unit<'_>]) -> Option<usize>
 fn needs(units: &[Unit<'_>], i: usize) -> u16
     ensures { result ≡ (slice_index_or units.now i nobody).needs }
 {
-    match units.get(i) {
-        Some(unit) => unit.needs,
-        None => 0,
-    }
+    units.get(i).copied().unwrap_or_default().needs
 }
 
 /// What each unit names. A step for each of 16 places.

@@ -8,6 +8,7 @@ ghost use Rattle.order.specs.Seen.{seen};
 use crate::Unit;
 use std::cmp::Ordering;
 
+// A named function though it is `cmp`: its contract is the law of the order by names.
 /// Compares two names byte by byte; a name comes before any longer one that it begins.
 /// A step for each byte of the shorter one.
 pub fn compare_names(a: &[u8], b: &[u8]) -> Ordering
@@ -21,10 +22,7 @@ pub fn compare_names(a: &[u8], b: &[u8]) -> Ordering
 fn name_at<'a>(units: &[Unit<'a>], place: usize) -> &'a [u8]
     ensures { result.now ≡ (seen units.now).name place }
 {
-    match units.get(place) {
-        Some(unit) => unit.name,
-        None => b"",
-    }
+    units.get(place).copied().unwrap_or_default().name
 }
 
 /// Whether the unit at i comes before the one at j by name; units of one name go by their places.
@@ -36,6 +34,7 @@ pub(crate) fn name_before(units: &[Unit<'_>], i: usize, j: usize) -> bool
         .is_lt()
 }
 
+// Number by number, as the rule for picking says it; `then_with` tells nothing of a closure that holds a slice.
 /// Whether the first of two tuples of rank and place comes before the second: by rank, then by the names of the
 /// units at the places, and units of one name by their places. A step for each byte of the shorter name.
 pub fn before(units: &[Unit<'_>], a: (u8, usize), b: (u8, usize)) -> bool

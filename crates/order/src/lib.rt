@@ -26,11 +26,13 @@ use marks::with;
 pub use picking::{pick, ready};
 use std::marker::Model;
 
+// Said here and in the store, as its `MOST_UNITS`: here it is how many bits a `u16` has, and neither crate needs the
+// other.
 /// Units at most: one bit of a `u16` for each.
 pub const MOST: usize = 16;
 
 /// A unit as the load order sees it. Units go by their places in a slice, from 0.
-#[derive(Clone, Copy, PartialEq, Eq, Debug)]
+#[derive(Clone, Copy, PartialEq, Eq, Debug, Default)]
 pub struct Unit<'a> {
     pub rank: u8,
     pub name: &'a [u8],
@@ -129,10 +131,7 @@ impl Few<'_> {
     {
         let mut order = Order::new();
         let mut placed = 0u16;
-        for _ in self.units {
-            let Some((_, place)) = pick(self.units, placed) else {
-                break;
-            };
+        while let Some((_, place)) = pick(self.units, placed) {
             order.push(place as u8);
             placed = with(placed, place);
         }

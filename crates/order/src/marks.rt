@@ -6,8 +6,8 @@ ghost use Rattle.order.specs.Seen.{bit};
 
 use crate::MOST;
 
-// Marks stay a `u16`: the public fields and functions have them so, and a type round it would be put on and taken off
-// at each of them.
+// A plain `u16`: callers fill `Unit::needs` and hand placed units to `pick`, and set a bit by `add_mark` alone; a type
+// of its own would be put on and taken off at each call.
 
 /// Whether a place is marked. One step.
 pub(crate) fn has(marks: u16, place: usize) -> bool

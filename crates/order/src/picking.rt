@@ -23,10 +23,8 @@ fn beyond(marks: u16, count: usize) -> bool
 pub(crate) fn lacks(units: &[Unit<'_>], i: usize) -> bool
     ensures { result ≡ (seen units.now).lacks i }
 {
-    match units.get(i) {
-        Some(unit) => unit.misses || beyond(unit.needs, units.len()),
-        None => false,
-    }
+    let unit = units.get(i).copied().unwrap_or_default();
+    unit.misses || beyond(unit.needs, units.len())
 }
 
 /// Whether the unit at a place is ready: there is one, it is not placed, and all units that it names are placed.
@@ -35,10 +33,8 @@ pub fn ready(units: &[Unit<'_>], placed: u16, i: usize) -> bool
     ensures value { result ≡ is_ready (seen units.now) (bit placed) i }
     ensures law { Decides result (Ready (seen units.now) (bit placed) i) }
 {
-    match units.get(i) {
-        Some(unit) => !has(placed, i) && !lacks(units, i) && within(unit.needs, placed),
-        None => false,
-    }
+    let unit = units.get(i).copied().unwrap_or_default();
+    i < units.len() && !has(placed, i) && !lacks(units, i) && within(unit.needs, placed)
 }
 
 /// The rank and the place of the next unit: of the units that are ready, the least by rank and then by name.

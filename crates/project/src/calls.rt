@@ -43,6 +43,7 @@ pub fn open(store: &mut [u8], book: &mut [u32]) -> Result<Open, Fault<Infallible
     Ok(Open { units: 0 })
 }
 
+// Store, book and scratch are lent one by one: a project holds no memory of its own.
 impl Open {
     // Counts the units that the store holds. Some steps for each byte of the records.
     fn recount(&mut self, store: &[u8])

@@ -17,6 +17,7 @@ pub enum MatchCause {
     Form = 4,
 }
 
+// A method, as of the other faults: `u8::from` would not show which number it is.
 impl MatchCause {
     // The number of the cause. Constant time.
     pub fn number(self) -> u8

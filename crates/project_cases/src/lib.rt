@@ -23,6 +23,7 @@ mod tests {
     }
 
     // A refusal: the number of its question, its place, and the first byte of the unit that it tells.
+    // By numbers, so that number and place are tested too.
     type Told = (u8, Option<usize>, Option<u8>);
 
     fn told<K: Copy>(fault: Fault<K>) -> Told {
@@ -125,6 +126,7 @@ mod tests {
     #[test]
     fn the_order_is_by_rank_then_name_behind_what_is_named(rt: HostRuntime) -> Result<(), Fail> {
         let mut b = Bench::new(rt.alloc())?;
+        // Setting up, here and below: what is ordered shows that it was put.
         let _ = b.put(b"module A = struct module X = C end");
         let lacking = b.ordered(0);
         let _ = b.put(b"module B = struct end");

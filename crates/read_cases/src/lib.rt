@@ -13,6 +13,7 @@ mod tests {
     use std::test::Fail;
 
     // The number of the question that a text answers with no, and the place, where it is about one.
+    // By numbers, so that number and place are tested too.
     type Refused = (u8, Option<usize>);
 
     fn refused(fault: ReadFault) -> Refused {
@@ -49,16 +50,6 @@ mod tests {
             place,
             name.and_then(|name| name.first().copied()),
         ))
-    }
-
-    // That of a unit's text.
-    fn listed(text: &[u8], scratch: &mut [u32], i: usize) -> Result<Listed, Refused> {
-        heads(text, scratch, Start::Unit, i)
-    }
-
-    // That of the text of a signature.
-    fn signed(text: &[u8], scratch: &mut [u32], i: usize) -> Result<Listed, Refused> {
-        heads(text, scratch, Start::Signature, i)
     }
 
     #[test]
@@ -243,55 +234,75 @@ mod tests {
         let mut words = vec![in rt.alloc(); 0u32; SCRATCH_WORDS]?;
         let scratch = words.as_mut_slice();
         assert_eq!(rt;
-            listed(b"module U = struct let x = 1 let y = x end", scratch, 0),
+            heads(
+                b"module U = struct let x = 1 let y = x end",
+                scratch,
+                Start::Unit,
+                0
+            ),
             Ok((0, None, None))
         );
         assert_eq!(rt;
-            listed(
+            heads(
                 b"module U = struct let y = A.x module M = F(G)(A.N) end",
                 scratch,
+                Start::Unit,
                 0
             ),
             Ok((4, Some(26), Some(b'A')))
         );
         assert_eq!(rt;
-            listed(
+            heads(
                 b"module U = struct let y = A.x module M = F(G)(A.N) end",
                 scratch,
+                Start::Unit,
                 1
             ),
             Ok((4, Some(41), Some(b'F')))
         );
         assert_eq!(rt;
-            listed(
+            heads(
                 b"module U = struct let y = A.x module M = F(G)(A.N) end",
                 scratch,
+                Start::Unit,
                 2
             ),
             Ok((4, Some(43), Some(b'G')))
         );
         assert_eq!(rt;
-            listed(
+            heads(
                 b"module U = struct let y = A.x module M = F(G)(A.N) end",
                 scratch,
+                Start::Unit,
                 3
             ),
             Ok((4, Some(46), Some(b'A')))
         );
         assert_eq!(rt;
-            listed(
+            heads(
                 b"module U = struct let y = A.x module M = F(G)(A.N) end",
                 scratch,
+                Start::Unit,
                 4
             ),
             Ok((4, None, None))
         );
         assert_eq!(rt;
-            listed(b"module U = struct let x = 1 let y = U.x end", scratch, 0),
+            heads(
+                b"module U = struct let x = 1 let y = U.x end",
+                scratch,
+                Start::Unit,
+                0
+            ),
             Ok((1, Some(36), Some(b'U')))
         );
         assert_eq!(rt;
-            listed(b"module U = struct let x = y let z = A.x end", scratch, 0),
+            heads(
+                b"module U = struct let x = y let z = A.x end",
+                scratch,
+                Start::Unit,
+                0
+            ),
             Ok((1, Some(36), Some(b'A')))
         );
         Ok(())
@@ -302,29 +313,37 @@ mod tests {
         let mut words = vec![in rt.alloc(); 0u32; SCRATCH_WORDS]?;
         let scratch = words.as_mut_slice();
         assert_eq!(rt;
-            listed(
+            heads(
                 b"module U = struct let y = A.x module A = struct let x = 1 end let z = A.x end",
                 scratch,
+                Start::Unit,
                 0
             ),
             Ok((1, Some(26), Some(b'A')))
         );
         assert_eq!(rt;
-            listed(b"module U = struct module A = A end", scratch, 0),
+            heads(
+                b"module U = struct module A = A end",
+                scratch,
+                Start::Unit,
+                0
+            ),
             Ok((1, Some(29), Some(b'A')))
         );
         assert_eq!(rt;
-            listed(
+            heads(
                 b"module U = struct module F = functor (X : sig val v : int end) -> struct let y = X.v end module M = X end",
                 scratch,
+                Start::Unit,
                 0
             ),
             Ok((1, Some(100), Some(b'X')))
         );
         assert_eq!(rt;
-            listed(
+            heads(
                 b"module U = struct module F = functor (X : sig val v : X.t end) -> X end",
                 scratch,
+                Start::Unit,
                 0
             ),
             Ok((1, Some(54), Some(b'X')))
@@ -337,41 +356,46 @@ mod tests {
         let mut words = vec![in rt.alloc(); 0u32; SCRATCH_WORDS]?;
         let scratch = words.as_mut_slice();
         assert_eq!(rt;
-            listed(
+            heads(
                 b"module U = struct module M = (N : sig type t = A.t val v : B.t end) type u = C.t end",
                 scratch,
+                Start::Unit,
                 1
             ),
             Ok((4, Some(47), Some(b'A')))
         );
         assert_eq!(rt;
-            listed(
+            heads(
                 b"module U = struct module M = (N : sig type t = A.t val v : B.t end) type u = C.t end",
                 scratch,
+                Start::Unit,
                 2
             ),
             Ok((4, Some(59), Some(b'B')))
         );
         assert_eq!(rt;
-            listed(
+            heads(
                 b"module U = struct module M = (N : sig type t = A.t val v : B.t end) type u = C.t end",
                 scratch,
+                Start::Unit,
                 3
             ),
             Ok((4, Some(77), Some(b'C')))
         );
         assert_eq!(rt;
-            signed(
+            heads(
                 b"sig module M : sig val v : A.t end val w : M.t end",
                 scratch,
+                Start::Signature,
                 0
             ),
             Ok((1, Some(27), Some(b'A')))
         );
         assert_eq!(rt;
-            signed(
+            heads(
                 b"functor (X : sig end) -> sig val v : X.t val w : Y.t end",
                 scratch,
+                Start::Signature,
                 0
             ),
             Ok((1, Some(49), Some(b'Y')))
@@ -384,12 +408,15 @@ mod tests {
         let mut words = vec![in rt.alloc(); 0u32; SCRATCH_WORDS]?;
         let scratch = words.as_mut_slice();
         assert_eq!(rt;
-            listed(b"module U = struct end", &mut [], 0),
+            heads(b"module U = struct end", &mut [], Start::Unit, 0),
             Err((1, None))
         );
-        assert_eq!(rt; listed(&[b'('; 4001], scratch, 0), Err((2, None)));
         assert_eq!(rt;
-            listed(b"module U = struct A end", scratch, 0),
+            heads(&[b'('; 4001], scratch, Start::Unit, 0),
+            Err((2, None))
+        );
+        assert_eq!(rt;
+            heads(b"module U = struct A end", scratch, Start::Unit, 0),
             Err((3, Some(18)))
         );
         Ok(())
