@@ -49,13 +49,6 @@ impl<K: Copy> From<Refusal<K>> for Refusal<LayerCause<K>> {
     }
 }
 
-// A refusal of an operator of the layer's own.
-fn own_refusal<K>(refusal: Refusal<Position>) -> Refusal<LayerCause<K>>
-    ensures { result ≡ own_cause refusal }
-{
-    refusal.map_cause(|position| LayerCause::Own(position.number))
-}
-
 // What a layer adds: its own words, numbered from 0, and the lines of its operators.
 pub trait Layer {
     ghost entries: { List Entry };
@@ -96,6 +89,14 @@ pub struct Layered<L, C> {
 const ROOM: u32 = 1 << 30;
 
 impl<L: Layer, C: Core> Layered<L, C> {
+    // A refusal of an operator of the layer's own.
+    // A method: `self` names the core below, without which a call in a closure does not say the type of its causes.
+    fn own_refusal(&self, refusal: Refusal<Position>) -> Refusal<LayerCause<C::Cause>>
+        ensures { result ≡ own_cause refusal }
+    {
+        refusal.map_cause(|position| LayerCause::Own(position.number))
+    }
+
     // Whether there is room for the layer's own words above so many others.
     fn has_room(&self, base: u32) -> bool
         ensures { result ≡ nat_le (base + length L.Layer.entries) 1073741824 }
@@ -174,11 +175,9 @@ impl<L: Layer, C: Core> Core for Layered<L, C> {
         let base = self.below.count();
         match operation {
             Operation::Operator(number) if number >= base => {
-                // not by `map_err`: no argument of `own_refusal` names the cause from below, and such a call is not covered
-                match answer_line(self.line_at(base, number), base, args, out) {
-                    Ok(n) => Ok(n),
-                    Err(refusal) => Err(own_refusal(refusal)),
-                }
+                answer_line(self.line_at(base, number), base, args, out).map_err(
+                    |refusal| self.own_refusal(refusal),
+                )
             }
             _ => Ok(self.below.answer(operation, args, out)?),
         }

@@ -108,6 +108,7 @@ impl<'a> Progress<'a> {
                     .ok_or(here)?;
                 Ok(Progress { rest, ..self })
             }
+            // Two arms: they set different fields.
             Item::Tau => {
                 let (words, rest) = bind(self.tau, self.rest).ok_or(here)?;
                 Ok(Progress {
@@ -187,6 +188,7 @@ pub fn answer_line(
     }
     let line = line.ok_or(Position { number: 1 })?;
     let at = compare(line.arguments, base, args)?;
+    // not map_err(..)?: what result_words promises is not found behind it
     let Ok(words) = at.result_words(line.result) else {
         return Err(Refusal::Size);
     };

@@ -36,6 +36,7 @@ impl fmt::Display for CCause {
 }
 
 // The words of the own labels, by their numbers.
+// Said for each language: the same word has other numbers in another one.
 const INT: u32 = LABEL0;
 
 const VOID: u32 = LABEL0 + 1;
@@ -45,6 +46,7 @@ const PTR: u32 = LABEL1 + 2;
 const FUNC: u32 = LABEL2 + 3;
 
 // The numbers of the operators whose lines write `ptr`.
+// By number: to look for `ptr` in the line at each refusal is no plainer.
 const DEREF: u32 = 6;
 
 const STORE: u32 = 7;
@@ -153,6 +155,7 @@ impl Core for MiniC {
 
     ghost stable = { c_stable };
 
+    // The same calls in each language: an impl for all languages would overlap with that of Layered.
     fn count(&self) -> u32 {
         LANGUAGE.words.len() as u32
     }

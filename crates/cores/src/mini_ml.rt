@@ -13,6 +13,7 @@ use types::words::{LABEL0, LABEL2};
 pub struct MiniMl;
 
 // The words of the own labels, by their numbers.
+// Said for each language: the same word has other numbers in another one.
 const INT: u32 = LABEL0;
 
 const BOOL: u32 = LABEL0 + 1;
@@ -93,6 +94,7 @@ impl Core for MiniMl {
 
     ghost stable = { ml_stable };
 
+    // The same calls in each language: an impl for all languages would overlap with that of Layered.
     fn count(&self) -> u32 {
         LANGUAGE.words.len() as u32
     }

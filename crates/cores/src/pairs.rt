@@ -17,6 +17,7 @@ pub struct Pairs;
 pub type WithPairs<C> = Layered<Pairs, C>;
 
 // The words of the own labels, by their numbers.
+// Said for each language: the same word has other numbers in another one.
 const PAIR: u32 = LABEL2;
 
 // The own words; a word's number is its place.
@@ -61,6 +62,7 @@ impl Layer for Pairs {
 
     ghost inside = { Prim.search rules };
 
+    // The same calls in each language: an impl for all languages would overlap with that of Layered.
     fn own_count(&self) -> u32 {
         WORDS.len() as u32
     }

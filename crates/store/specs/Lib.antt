@@ -6,3 +6,4 @@ pub mod Restored
 pub mod Layout
 pub mod Units
 pub mod Calls
+pub mod Wording

@@ -12,6 +12,7 @@ pub const MOST_UNITS: usize = 16;
 
 // The records are the first `count` of the array; what stands behind them is blank, so that two directories are equal
 // when their records are.
+// A plain struct, changed by value; an ArrayVec is not Copy.
 #[derive(Clone, Copy, PartialEq, Eq, Debug)]
 pub struct Directory {
     pub(crate) count: usize,
@@ -79,6 +80,7 @@ impl Directory {
 
     // The directory with this record in place of the one of its name, or behind the last, and its place there; None
     // where the record is not sound or 16 others are there. At most 16 steps.
+    // None for both: what `put` enters is sound, so that its None is a full directory.
     pub fn with(self, e: Entry) -> Option<(Directory, usize)>
         ensures { With e self result }
     {

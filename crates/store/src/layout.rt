@@ -21,15 +21,22 @@ pub(crate) const RECORD_BYTES: usize = 22;
 #[derive(Clone, Copy, PartialEq, Eq, Debug)]
 pub struct WrongLength;
 
+// The refusal, in a sentence.
 impl fmt::Display for WrongLength {
+    ghost use Rattle.std.specs.Prelude.{Some};
+    ghost use Rattle.store.specs.Wording.{length_words};
+
+    ghost output = { λ _. Some length_words };
+
     fn fmt<W: fmt::Write>(&self, f: &mut fmt::Formatter<W>) -> fmt::Result {
-        write!(f, "the store has not the bytes of a store")
+        f.write_str("the store has not the bytes of a store")
     }
 }
 
 impl Error for WrongLength {}
 
 // The record that stands at a place.
+// By place, in reading and in writing: chunks of a store begin behind its first byte, and writing needs the place too.
 fn read_entry(store: &[u8], at: usize) -> Entry
     requires { at + 22 ≤ length store.now }
     ensures { result ≡ record_at store.now at }

@@ -1,4 +1,5 @@
 // Names as numbers, so that a fault or a record can hold one.
+// The number stays a plain u128: records and faults hold plain numbers only.
 ghost use Rattle.std.specs.Prelude.{◌≡◌};
 ghost use Rattle.store.specs.Names.{front, name_number, Ordered, Sizes, Spells};
 ghost use Rattle.store.specs.Numbers.{spread};

@@ -36,11 +36,8 @@ fn units_are_put_replaced_and_removed(rt: HostRuntime) -> Result<(), Fail> {
     let store = memory.as_mut_slice();
     assert_eq!(rt; read(store).len(), 0);
     assert_eq!(rt; clear(store), Ok(()));
-    for text in [b"A.", b"B.", b"C.", b"D.", b"E.", b"F.", b"G.", b"H."] {
-        put_short(store, text)?;
-    }
-    for text in [b"I.", b"J.", b"K.", b"L.", b"M.", b"N.", b"O.", b"P."] {
-        put_short(store, text)?;
+    for letter in b'A'..=b'P' {
+        put_short(store, &[letter, b'.'])?;
     }
     assert_eq!(rt; put_short(store, b"Q."), Err(Refusal::Full));
     assert_eq!(rt; put_short(store, b"C, again"), Ok(2));

@@ -30,15 +30,21 @@ pub enum Refusal {
     Missing,
 }
 
+// Why a store was left as it was, in a sentence.
 impl fmt::Display for Refusal {
+    ghost use Rattle.std.specs.Prelude.{Some};
+    ghost use Rattle.store.specs.Wording.{refusal_words};
+
+    ghost output = { λ r. Some (refusal_words r) };
+
     fn fmt<W: fmt::Write>(&self, f: &mut fmt::Formatter<W>) -> fmt::Result {
-        match self {
-            Refusal::StoreLength => write!(f, "the store has not the bytes of a store"),
-            Refusal::TextLength => write!(f, "the text has too many bytes"),
-            Refusal::NoName => write!(f, "no name stands at the place told"),
-            Refusal::Full => write!(f, "16 other units are stored"),
-            Refusal::Missing => write!(f, "no unit of that name is stored"),
-        }
+        f.write_str(match self {
+            Refusal::StoreLength => return WrongLength.fmt(f),
+            Refusal::TextLength => "the text has too many bytes",
+            Refusal::NoName => "no name stands at the place told",
+            Refusal::Full => "16 other units are stored",
+            Refusal::Missing => "no unit of that name is stored",
+        })
     }
 }
 
@@ -57,10 +63,7 @@ impl From<WrongLength> for Refusal {
 pub fn name_within(text: &[u8], place: usize, size: usize) -> Option<u128>
     ensures { result ≡ name_in text.now place size }
 {
-    if size > text.len() || place > text.len() - size {
-        return None;
-    }
-    name_number(&text[place..place + size])
+    name_number(text.get(place..place.checked_add(size)?)?)
 }
 
 // Empties a store of 65,536 bytes; at any other length it is refused, and nothing is written. Constant time.

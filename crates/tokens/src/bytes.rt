@@ -31,6 +31,7 @@ impl From<u8> for Class {
 }
 
 // The runs of bytes that go as far as they can.
+// An enum and no closure: the three runs are all there are, and contracts name them.
 #[derive(Clone, Copy, PartialEq, Eq, Debug)]
 pub enum Run {
     Blanks,

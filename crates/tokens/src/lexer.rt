@@ -2,7 +2,7 @@
 ghost use Rattle.std.specs.Prelude.{◌≡◌, drop, None};
 ghost use Rattle.std.specs.List.{prefix_len};
 ghost use Rattle.tokens.specs.Bytes.{is_digit, is_name_byte};
-ghost use Rattle.tokens.specs.Lexer.{MarkAt, word, name_front, integer_front, token_front, TokenAt, view, told, next_token, fault_number};
+ghost use Rattle.tokens.specs.Lexer.{MarkAt, mark_of, mark_front, word, name_front, integer_front, token_front, TokenAt, view, told, next_token, fault_number};
 
 use super::bytes::{Class, Run};
 use super::token::{Mark, Token, keyword_of};
@@ -102,6 +102,14 @@ fn mark_at(bytes: &[u8]) -> Option<(Mark, &[u8])>
     }
 }
 
+// The mark at the front as a token, and what is left behind it. Constant time.
+fn mark_token_at(bytes: &[u8]) -> Result<(Token<'_>, &[u8]), Reason>
+    ensures { TokenAt (mark_front (mark_of bytes.now)) bytes.now result }
+{
+    let (m, rest) = mark_at(bytes).ok_or(Reason::Byte)?;
+    Ok((Token::Mark(m), rest))
+}
+
 // The name or keyword at the front, which begins with a letter, and what is left behind it. Linear in the run.
 fn name_at(bytes: &[u8]) -> Result<(Token<'_>, &[u8]), Reason>
     ensures { TokenAt (name_front (prefix_len is_name_byte bytes.now) bytes.now) bytes.now result }
@@ -143,10 +151,7 @@ fn token_at(bytes: &[u8]) -> Result<(Token<'_>, &[u8]), Reason>
     match Class::from(*b) {
         Class::Lower | Class::Upper => name_at(bytes),
         Class::Digit => integer_at(bytes),
-        _ => match mark_at(bytes) {
-            Some((m, rest)) => Ok((Token::Mark(m), rest)),
-            None => Err(Reason::Byte),
-        },
+        _ => mark_token_at(bytes),
     }
 }
 
@@ -161,6 +166,7 @@ pub fn next(text: &[u8], from: usize) -> Result<Option<Placed<'_>>, LexFault>
         return Ok(None);
     }
     let place = text.len() - bytes.len();
+    // not map_err(..)?: the facts of the error then stand under names that no answer can cite
     match token_at(bytes) {
         Ok((token, rest)) => Ok(Some(Placed {
             token,
