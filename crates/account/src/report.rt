@@ -5,10 +5,8 @@ use super::cursor::{Cursor, Position};
 use super::wording::{Kind, shown_byte};
 use std::{fmt, io};
 use tokens::count::{Counts, count_tokens};
+pub use tokens::lexer::TEXT_LIMIT;
 use tokens::lexer::{LexFault, Placed, Tokens};
-
-// The longest text of a unit, in bytes.
-pub const TEXT_LIMIT: usize = 4000;
 
 // Bytes of a text, each shown in one column.
 #[derive(Clone, Copy, PartialEq, Eq, Debug)]

@@ -1,7 +1,8 @@
 // The record of one unit in a directory.
+use tokens::lexer::TEXT_LIMIT;
 
 // The bytes that a text has at most.
-pub const LONGEST_TEXT: usize = 4000;
+pub const LONGEST_TEXT: usize = TEXT_LIMIT;
 
 // A unit's record: plain numbers only.
 #[derive(Clone, Copy, PartialEq, Eq, Debug)]

@@ -90,6 +90,7 @@ pub fn put(
     ensures law { units_of store.new ≡ (if is_ok result then put_in (unit_for text.now place size rank) (units_of store.old) else units_of store.old) }
     ensures replaced { is_ok result ≡ true → Replaced (unit_for text.now place size rank) (units_of store.old) (units_of store.new) }
 {
+    // The length is asked again in `write`, which may be called alone; over an array the goals of the refusals stay open.
     if store.len() != STORE_BYTES {
         return Err(Refusal::StoreLength);
     }
@@ -122,6 +123,7 @@ pub fn remove(store: &mut [u8], name: u128) -> Result<usize, Refusal>
     ensures law { units_of store.new ≡ (if is_ok result then taken_out name (units_of store.old) else units_of store.old) }
     ensures removed { is_ok result ≡ true → Removed name (units_of store.old) (units_of store.new) }
 {
+    // The length is asked again in `write`, which may be called alone; over an array the goals of the refusals stay open.
     if store.len() != STORE_BYTES {
         return Err(Refusal::StoreLength);
     }

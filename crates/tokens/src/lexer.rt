@@ -12,6 +12,9 @@ use std::fmt;
 // The longest name, in bytes.
 pub const NAME_LIMIT: usize = 16;
 
+// The longest text of a unit, in bytes: the readers of a text, the store and the account hold to it.
+pub const TEXT_LIMIT: usize = 4000;
+
 // The longest integer, in digits.
 pub const INTEGER_LIMIT: usize = 9;
 

@@ -1,4 +1,4 @@
-use Rattle.std.proofs.Common.{◌≡◌, ℕ, Ok, Err, Result, MatchResult, IsErrAnd, sym, ap, ◌∙◌, rules}
+use Rattle.std.proofs.Common.{◌≡◌, ℕ, Ok, Err, Result, MatchResult, IsErrAnd, ap, ◌∙◌, rules}
 use Rattle.std.specs.Option.{option_map}
 use Rattle.cores.specs.Steps.{row_items}
 use Rattle.cores.specs.Layers.{own_cause}
