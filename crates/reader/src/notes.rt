@@ -62,7 +62,7 @@ impl Note {
 }
 
 // Whether a token declares a name again. Linear in what its structure or signature has declared.
-// not is_some_and: its closure hides what is_declared answers
+// not is_some_and: its closure tells nothing of its answer without a clause of its own, which is longer than the match
 fn is_redeclared(scope: Scope<'_>, symbol: Symbol, name: &[u8]) -> bool
     ensures { result ≡ again_of (declaring symbol) name.now (entries_of scope.entry) }
 {
