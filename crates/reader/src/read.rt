@@ -18,7 +18,7 @@ pub use super::parse::Start;
 use super::parse::parse;
 use super::statics::go_through;
 use cores::interface::Core;
-use tokens::lexer::{Placed, next};
+use tokens::lexer::{self, Placed, next};
 use tokens::token::Token;
 
 // Core, text and scratch stay parameters of their own below: no value holds a core and the lent memory together.
@@ -27,7 +27,7 @@ use tokens::token::Token;
 pub const SCRATCH_WORDS: usize = 65_536;
 
 // The most bytes of a text.
-pub const TEXT_LIMIT: usize = 4_000;
+pub const TEXT_LIMIT: usize = lexer::TEXT_LIMIT;
 
 // What is learned of a unit besides that it reads: its name, as the part of the text that spells it, with its place, and its rank.
 #[derive(Clone, Copy, PartialEq, Eq, Debug)]
