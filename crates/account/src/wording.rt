@@ -28,6 +28,7 @@ impl fmt::Display for Kind<'_> {
 }
 
 // How a byte of a text is shown on a screen, so that each takes one column. Constant time.
+// No From: a byte stays a byte.
 pub fn shown_byte(b: u8) -> u8
     ensures { result ≡ shown_byte b }
 {

@@ -34,7 +34,7 @@ impl<K> From<K> for Refusal<K> {
     }
 }
 
-// An item of a line. Patterns are spelled like types: an own label by its word, counted from the first own word, before its parts.
+// An item of a line: data and no closure, since laws speak of lines. Patterns are spelled like types: an own label by its word, counted from the first own word, before its parts.
 #[derive(Clone, Copy, PartialEq, Eq, Debug)]
 pub enum Item {
     // the argument of this position begins

@@ -12,7 +12,7 @@ use tokens::token::Token;
 // The largest rank that can be written.
 const RANK_LIMIT: u32 = 255;
 
-// An integer's class: whether it can be a rank. Linear in the digits.
+// An integer's class: whether it can be a rank. Linear in the digits. No From: not any bytes are digits.
 fn integer_class(digits: &[u8]) -> Class
     requires { Digits digits.now }
     ensures { result ≡ integer_class digits.now }
@@ -24,6 +24,7 @@ fn integer_class(digits: &[u8]) -> Class
 }
 
 // The class of a token of a text over this core. The cost of one look among the core's words.
+// No From: the class of a name depends on the core.
 pub fn class_of<C: Core>(core: &C, token: Token<'_>) -> Class
     requires { Proper (view token) }
     ensures { result ≡ class_of (token_of C.Core.words (view token.entry)) }

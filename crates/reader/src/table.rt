@@ -10,6 +10,7 @@ use super::{grammar, type_grammar};
 
 // What has to follow a token of this class where this symbol is to be read; None where the symbol cannot begin so.
 // Constant time. Two parameters and no Met: parse has no use for one, and the rows take symbol and class apart.
+// A match and no table of functions: symbols lie in lent memory as numbers.
 pub fn expand(symbol: Symbol, c: Class) -> Option<Row>
     ensures { row_of result ≡ expansion symbol c }
 {
