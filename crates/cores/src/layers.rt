@@ -97,7 +97,7 @@ impl<L: Layer, C: Core> Layered<L, C> {
         refusal.map_cause(|position| LayerCause::Own(position.number))
     }
 
-    // Whether there is room for the layer's own words above so many others.
+    // Whether there is room for the layer's own words above so many others. Asked for in each call: what is left without room differs.
     fn has_room(&self, base: u32) -> bool
         ensures { result ≡ nat_le (base + length L.Layer.entries) 1073741824 }
     {

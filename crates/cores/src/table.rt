@@ -16,7 +16,7 @@ pub struct Entry<'a> {
     pub line: Option<Line<'a>>,
 }
 
-// The first word of this name. Linear in the table.
+// The first word of this name, by position, since the place is the number that is answered. Linear in the table.
 pub(crate) fn find_word(table: &[Entry<'_>], name: &[u8]) -> Option<Found>
     requires { length table.now ≤ 2 ^ 32 }
     ensures { result ≡ lookup (map tabled table.now) name.now }

@@ -32,7 +32,7 @@ pub struct Origin {
     ghost room: { place.opened + 2 < 2 ^ 32 },
 }
 
-// Nothing is open, and nothing is declared.
+// Nothing is open, and nothing is declared. A constant and no Default: its name says where that holds.
 pub const OUTERMOST: Origin = Origin {
     frame: Frame {
         inner: NOTHING,
@@ -139,7 +139,7 @@ fn read_frame(words: &[u32], i: usize) -> (Symbol, Frame)
 }
 
 // A stack of frames, five words for each.
-// Words and depth by hand: the memory is lent, and no list of the library lies over lent words.
+// Words and depth by hand: the memory is lent, and no list of the library lies over lent words. No Debug: words behind the depth mean nothing.
 #[derive(Drop)]
 pub struct Frames<'s> {
     words: &'s mut [u32],

@@ -156,7 +156,7 @@ impl Firsts {
 }
 
 // The places of heads that name units, listed in lent words.
-// Words and count by hand: the memory is lent, and no list of the library lies over lent words.
+// Words and count by hand: the memory is lent, and no list of the library lies over lent words. No Debug: words behind the count mean nothing.
 #[derive(Drop)]
 pub struct Heads<'s> {
     words: &'s mut [u32],

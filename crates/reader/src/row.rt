@@ -11,6 +11,7 @@ use super::scope::{Binder, Sort};
 use std::marker::Model;
 
 // A word of a row; 0 behind its end. Constant time.
+// Row and place stay two parameters, here and below: a scope that goes outward reads an entry by them once.
 fn word_at(row: &[u32], i: usize) -> u32
     ensures { result ≡ slice_index row.now i }
 {
@@ -134,7 +135,7 @@ fn append(words: &mut [u32], count: u32, binder: Binder, parent: u32, from: u32,
 }
 
 // The entries made so far, in lent words.
-// Words and count by hand: the memory is lent, and no list of the library lies over lent words.
+// Words and count by hand: the memory is lent, and no list of the library lies over lent words. No Debug: words behind the count mean nothing.
 #[derive(Drop)]
 pub struct Entries<'s> {
     words: &'s mut [u32],

@@ -5,7 +5,7 @@ ghost use Rattle.reader.specs.Stacks.{Stacked, stacked};
 use super::symbol::Symbol;
 use std::marker::Model;
 
-// Words and depth by hand: the memory is lent, and no list of the library lies over lent words.
+// Words and depth by hand: the memory is lent, and no list of the library lies over lent words. No Debug: words behind the depth mean nothing.
 // Not one type with Frames: the two share the depth alone.
 #[derive(Drop)]
 pub struct Stack<'s> {

@@ -19,7 +19,7 @@ pub struct Entry {
     pub rank: u8,
 }
 
-// The record of zeros, in places that hold no unit.
+// The record of zeros, in places that hold no unit. A constant and no Default: it fills arrays.
 pub const BLANK: Entry = Entry {
     name: 0,
     size: 0,
