@@ -2,6 +2,7 @@
 ghost use Rattle.std.specs.Prelude.{◌≡◌, drop, None};
 ghost use Rattle.std.specs.List.{prefix_len};
 ghost use Rattle.tokens.specs.Bytes.{is_digit, is_name_byte};
+ghost use Rattle.tokens.specs.Wording.{reason_words};
 ghost use Rattle.tokens.specs.Lexer.{MarkAt, mark_of, mark_front, word, name_front, integer_front, token_front, TokenAt, view, told, next_token, fault_number};
 
 use super::bytes::{Class, Run};
@@ -32,19 +33,25 @@ pub enum Reason {
     LongInteger,
 }
 
-// Why no token stands at a place, in a sentence.
+// Why no token stands at a place, in a sentence. Constant time.
+// A function beside `Display`: it cannot fail, and a caller who keeps or pads the sentence needs no writer.
+pub fn reason_words(reason: Reason) -> &'static str
+    ensures { result.now ≡ reason_words reason }
+{
+    match reason {
+        Reason::Byte => "no token begins with this byte",
+        Reason::LongName => "a name has at most 16 bytes, and this one goes on",
+        Reason::LongInteger => "an integer has at most 9 digits, and this one goes on",
+    }
+}
+
 impl fmt::Display for Reason {
     ghost use Rattle.std.specs.Prelude.{Some};
-    ghost use Rattle.tokens.specs.Wording.{reason_words};
 
     ghost output = { λ r. Some (reason_words r) };
 
     fn fmt<W: fmt::Write>(&self, f: &mut fmt::Formatter<W>) -> fmt::Result {
-        f.write_str(match self {
-            Reason::Byte => "no token begins with this byte",
-            Reason::LongName => "a name has at most 16 bytes, and this one goes on",
-            Reason::LongInteger => "an integer has at most 9 digits, and this one goes on",
-        })
+        f.write_str(reason_words(*self))
     }
 }
 
@@ -66,7 +73,6 @@ pub struct Placed<'a> {
 // The reason, in its sentence: the place is told apart, by line and column.
 impl fmt::Display for LexFault {
     ghost use Rattle.std.specs.Prelude.{Some};
-    ghost use Rattle.tokens.specs.Wording.{reason_words};
 
     ghost output = { λ e. Some (reason_words e.reason) };
 
