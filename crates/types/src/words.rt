@@ -1,5 +1,5 @@
 // Types in memory: a run of 32-bit words, one for each label and leaf, a label before its parts.
-ghost use Rattle.std.specs.Prelude.{◌≡◌, ℕ, ◌+◌, ◌^◌, ◌<◌, length, Decides};
+ghost use Rattle.std.specs.Prelude.{◌≡◌, ℕ, ◌+◌, ◌^◌, ◌<◌, length, take, drop, Decides};
 ghost use Rattle.std.specs.Option.{option_map};
 ghost use Rattle.std.specs.Result.{result_ok};
 ghost use Rattle.types.specs.Encoding.{FirstType, AreTypes};
@@ -74,6 +74,20 @@ impl Node {
             Node::Label2(_) => 2,
         }
     }
+}
+
+// The words behind the first n; none where there are no more. Constant time.
+pub fn after(words: &[u32], n: usize) -> &[u32]
+    ensures { result.now ≡ drop n words.now }
+{
+    words.get(n..).unwrap_or(&[])
+}
+
+// The first n words, or all if there are fewer. Constant time.
+pub fn front(words: &[u32], n: usize) -> &[u32]
+    ensures { result.now ≡ take n words.now }
+{
+    words.get(..n).unwrap_or(words)
 }
 
 // Copies a run of words over others, from place `n` on, and tells where the copy ends; where there is no room nothing is changed.
