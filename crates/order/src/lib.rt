@@ -11,7 +11,7 @@ mod picking;
 #[cfg(test)]
 mod tests;
 
-ghost use Rattle.std.specs.Prelude.{◌≡◌, ◌<◌, [], ◌∷◌, ◌++◌, length};
+ghost use Rattle.std.specs.Prelude.{◌≡◌, ◌<◌, ◌≤◌, [], ◌∷◌, ◌++◌, length};
 ghost use Rattle.order.specs.Answer.{arranged, question, Fits, Means};
 ghost use Rattle.order.specs.Law.{ExistsExactly};
 ghost use Rattle.order.specs.Picking.{load_order};
@@ -90,9 +90,10 @@ impl Order {
         self.len += 1;
     }
 
-    /// The places, first those that load first. One step.
+    /// The places, at most 16, first those that load first. One step.
     pub fn as_slice(&self) -> &[u8]
-        ensures { result.now ≡ self.now }
+        ensures value { result.now ≡ self.now }
+        ensures few { length result.now ≤ 16 }
     {
         &self.places[..self.len]
     }

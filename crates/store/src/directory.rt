@@ -1,6 +1,6 @@
 // The directory of a store: at most 16 records, each one sound, no two of one name.
-ghost use Rattle.std.specs.Prelude.{◌≡◌, [], length};
-ghost use Rattle.store.specs.Entries.{entry_at, found};
+ghost use Rattle.std.specs.Prelude.{◌≡◌, ◌≤◌, true, [], length};
+ghost use Rattle.store.specs.Entries.{lawful, entry_at, found};
 ghost use Rattle.store.specs.Directories.{With, Without};
 
 use super::edit::is_sound;
@@ -50,16 +50,18 @@ impl Directory {
         }
     }
 
-    // How many records there are. Constant time.
+    // How many records there are: at most 16. Constant time.
     pub fn len(&self) -> usize
-        ensures { result ≡ length self.now }
+        ensures value { result ≡ length self.now }
+        ensures few { result ≤ 16 }
     {
         self.count
     }
 
-    // The records. Constant time.
+    // The records, which are lawful in every directory: at most 16, each one sound, no two of one name. Constant time.
     pub fn records(&self) -> &[Entry]
-        ensures { result.now ≡ self.now }
+        ensures value { result.now ≡ self.now }
+        ensures kept { lawful self.now ≡ true }
     {
         &self.entries[..self.count]
     }

@@ -27,7 +27,7 @@ returns c =
     let v = c.directory.view_is in
     let whole : length es ≡ n = sym (ap length v) ∙ restored_count c.directory.inside h in
     let count : set s 0 n ≡ laid 0 (spread 1 (length es)) s = laid_one 0 n s (omega (arith, h.few)) (omega arith) ∙ ap (λ k. laid 0 (spread 1 k) s) (sym whole) in
-    let all = take_all c.loop-i.i c.records-e-items.result.now (omega arith) ∙ c.records-e-items.ensures in
+    let all = take_all c.loop-i.i c.records-e-items.result.now (omega arith) ∙ c.records-e-items.ensures.value in
     let is : eqb (length s) 65536 ≡ true = eq-eqb (length s) 65536 (omega arith) in
     let bytes : c.loop-i.store ≡ laid 0 (encode es) s =
     c.loop-i.invariant

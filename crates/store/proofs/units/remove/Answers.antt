@@ -11,20 +11,20 @@ use Rattle.store.proofs.units.remove.Goals as goal
 pub move_bytes-requires : goal.move_bytes-requires
 move_bytes-requires c =
     let s = c.args.store.now in
-    let n : c.len-last.result ≡ length (stored s) = c.len-last.ensures ∙ ap length c.read-directory.ensures.records in
+    let n : c.len-last.result ≡ length (stored s) = c.len-last.ensures.value ∙ ap length c.read-directory.ensures.records in
     let p = rw c.read-directory.ensures.records at c.in-Some.ensures in
     let below = p.0 in
     let at = p.2 in
     let b = record_bounds s (c.len-last.result - 1) (omega arith) in
-    let span = c.from-span.ensures ∙ ap (λ es. (get_or es (c.len-last.result - 1) blank).span) (c.records.ensures ∙ c.read-directory.ensures.records) in
+    let span = c.from-span.ensures ∙ ap (λ es. (get_or es (c.len-last.result - 1) blank).span) (c.records.ensures.value ∙ c.read-directory.ensures.records) in
     (omega (arith, c.slot.ensures, c.slot-2.ensures), omega (arith, b.0, b.2, b.3, c.slot.ensures))
 
 pub returns : goal.returns
 returns c =
     let s = c.args.store.now in
-    let n : c.len-last.result ≡ length (stored s) = c.len-last.ensures ∙ ap length c.read-directory.ensures.records in
+    let n : c.len-last.result ≡ length (stored s) = c.len-last.ensures.value ∙ ap length c.read-directory.ensures.records in
     let p = rw c.read-directory.ensures.records at c.in-Some.ensures in
-    let span = c.from-span.ensures ∙ ap (λ es. (get_or es (c.len-last.result - 1) blank).span) (c.records.ensures ∙ c.read-directory.ensures.records) in
+    let span = c.from-span.ensures ∙ ap (λ es. (get_or es (c.len-last.result - 1) blank).span) (c.records.ensures.value ∙ c.read-directory.ensures.records) in
     let done = remove_done s c.move_bytes.new.store c.write.new.store c.args.name _ c.slot.result c.slot-2.result c.from-span.result _
     c.if-store-ne-STORE_BYTES.false p.0 p.1 p.2 (c.slot.ensures ∙ ap (λ m. slot (m - 1)) n) c.slot-2.ensures
     (span ∙ ap (λ m. (get_or (stored s) (m - 1) blank).span) n) c.move_bytes.ensures c.write.ensures.bytes in
