@@ -155,7 +155,7 @@ name_is s i =
     (cases_lt i (length (stored s)))
 
 -- a store has at most 16 records
-few_units : (s : List ℕ) → length (stored s) ≤ 16
+pub few_units : (s : List ℕ) → length (stored s) ≤ 16
 few_units s = (lawful_parts (stored s) (lawful_stored s)).0
 
 -- ---- all units
@@ -177,14 +177,13 @@ view_agrees ws s seen long all = record {
     or_no false = refl
 
 -- the units in a longer row, cut to their number
-pub view_of_front : (ws : List Word) (s : List ℕ) (row : List Seen) (n : ℕ) → length row ≡ 16 → n ≡ length (stored s) →
-    ((i : ℕ) → i < 16 → UnitSeen ws (units s) i (get_or row i nobody)) → arranged (view (take n row)) ≡ arranged (stored_view ws (units s))
-view_of_front ws s row n long count all =
+pub view_of_front : (ws : List Word) (s : List ℕ) (row front : List Seen) (n : ℕ) → length row ≡ 16 → n ≡ length (stored s) → front ≡ take n row →
+    ((i : ℕ) → i < length (units s) → UnitSeen ws (units s) i (get_or row i nobody)) → arranged (view front) ≡ arranged (stored_view ws (units s))
+view_of_front ws s row front n long count is all =
     let same = length_held (stored s) s in
-    let few = few_units s in
-    let cut : length (take n row) ≡ length (units s) = length-take-le n row (omega arith) ∙ omega arith in
-    arranged_agrees (view (take n row)) (stored_view ws (units s)) (view_agrees ws s (take n row) cut
-    (λ i l. subst (λ (u : Seen). UnitSeen ws (units s) i u) (sym (get_or-take n row i nobody (omega arith))) (all i (omega arith))))
+    let cut : length front ≡ length (units s) = ap length is ∙ length-take-le n row (omega (arith, few_units s)) ∙ omega arith in
+    arranged_agrees (view front) (stored_view ws (units s)) (view_agrees ws s front cut
+    (λ i l. subst (λ (u : Seen). UnitSeen ws (units s) i u) (sym (ap (λ (xs : List Seen). get_or xs i nobody) is ∙ get_or-take n row i nobody (omega arith))) (all i l)))
 
 -- the load order is told where it was found, and else the fault of the units
 pub order_told : {K : Type 0} (ws : List Word) (s : List ℕ) (room : ℕ) (a : Result Order Unarranged) (r : Result Order (Fault K)) → length s ≡ 65536 → room ≡ 65536 →

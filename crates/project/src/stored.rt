@@ -1,4 +1,4 @@
-// The units of a lent store by their places, and what they name; the store's directory is read once.
+// The units of a lent store by their places, and what they name. The directory is kept; `text` and `name` ask the store, which reads it anew.
 ghost use Rattle.std.specs.Prelude.{◌≡◌, ℕ, ◌<◌, Some, length, slice_index_or};
 ghost use Rattle.order.specs.Seen.{nobody};
 ghost use Rattle.store.specs.Entries.{blank, found};
@@ -114,10 +114,14 @@ impl<'a> Stored<'a> {
         self.heads_named(text, heads)
     }
 
-    // The unit at a place, as the load order sees it. Linear in its text times what is declared around its names.
+    // The unit at a place, as the load order sees it; an empty one, and nothing is read, where none stands. Linear in its text
+    // times what is declared around its names.
     fn seen<C: Core>(&self, core: &C, scratch: &mut [u32; SCRATCH_WORDS], i: usize) -> Unit<'a>
-        ensures { UnitSeen C.Core.words (units_of self.now.store.now) i result }
+        ensures { i < length (units_of self.now.store.now) → UnitSeen C.Core.words (units_of self.now.store.now) i result }
     {
+        if i >= self.len() {
+            return Unit::default();
+        }
         let found = self.named(core, scratch, i);
         Unit {
             rank: self.entry(i).rank,
@@ -133,7 +137,7 @@ impl<'a> Stored<'a> {
         core: &C,
         scratch: &mut [u32; SCRATCH_WORDS],
     ) -> [Unit<'a>; MOST]
-        ensures { (i : ℕ) → i < 16 → UnitSeen C.Core.words (units_of self.now.store.now) i (slice_index_or result i nobody) }
+        ensures { (i : ℕ) → i < length (units_of self.now.store.now) → UnitSeen C.Core.words (units_of self.now.store.now) i (slice_index_or result i nobody) }
     {
         array::from_fn(|i| self.seen(core, scratch, i))
     }

@@ -1,4 +1,4 @@
-use Rattle.std.proofs.Common.{◌≡◌, ℕ, ◌<◌, List, Err, length, get_or, ap, ◌∙◌, subst, arith, rules}
+use Rattle.std.proofs.Common.{◌≡◌, ℕ, ◌<◌, List, Err, length, take, get_or, refl, ap, ◌∙◌, subst, arith, rules}
 use Rattle.std.proofs.lemmas.Result.{MatchResult-weaker, err_from_is_err_and}
 use Rattle.store.specs.Layout.{stored}
 use Rattle.store.specs.Units.{units}
@@ -20,8 +20,8 @@ returns-clause-answer g c =
     let ws = g.C.Core.words in
     let s = c.args.store.now in
     let row = c.all_seen-seen.result in
-    let all = subst (λ (z : List ℕ). (i : ℕ) → i < 16 → UnitSeen ws (units z) i (get_or row i nobody)) c.read-units.ensures c.all_seen-seen.ensures in
-    let same = view_of_front ws s row c.len.result (omega arith) (c.len.ensures ∙ ap (λ (z : List ℕ). length (stored z)) c.read-units.ensures) all in
+    let all = subst (λ (z : List ℕ). (i : ℕ) → i < length (units z) → UnitSeen ws (units z) i (get_or row i nobody)) c.read-units.ensures c.all_seen-seen.ensures in
+    let same = view_of_front ws s row (take c.len.result row) c.len.result (omega arith) (c.len.ensures ∙ ap (λ (z : List ℕ). length (stored z)) c.read-units.ensures) refl all in
     order_told ws s (length c.args.scratch.now) c.arrange.result c.map_err.result (omega arith) c.in-Some.ensures.cases.long (c.arrange.ensures.answer ∙ same)
     (MatchResult-weaker c.arrange.result c.map_err.ensures.cases (λ o is. is)
     (λ e told.
