@@ -20,38 +20,46 @@ pub type WithPairs<C> = Layered<Pairs, C>;
 // Said for each language: the same word has other numbers in another one.
 const PAIR: u32 = LABEL2;
 
+// A table behind a reference: an array of them would be built anew in each call.
+#[derive(Clone, Copy)]
+struct Table<'a> {
+    words: &'a [Entry<'a>],
+}
+
 // The own words; a word's number is its place.
-const WORDS: [Entry<'static>; 4] = [
-    Entry {
-        name: b"pair",
-        kind: Kind::Label(2),
-        line: None,
-    },
-    Entry {
-        name: b"mkpair",
-        kind: Kind::Operator(2),
-        line: Some(Line {
-            arguments: &[Arg(1), Tau, Arg(2), Rho, End(3)],
-            result: &[Label(PAIR), Tau, Rho],
-        }),
-    },
-    Entry {
-        name: b"first",
-        kind: Kind::Operator(1),
-        line: Some(Line {
-            arguments: &[Arg(1), Label(PAIR), Tau, Rho, End(2)],
-            result: &[Tau],
-        }),
-    },
-    Entry {
-        name: b"second",
-        kind: Kind::Operator(1),
-        line: Some(Line {
-            arguments: &[Arg(1), Label(PAIR), Tau, Rho, End(2)],
-            result: &[Rho],
-        }),
-    },
-];
+const OWN: Table<'static> = Table {
+    words: &[
+        Entry {
+            name: b"pair",
+            kind: Kind::Label(2),
+            line: None,
+        },
+        Entry {
+            name: b"mkpair",
+            kind: Kind::Operator(2),
+            line: Some(Line {
+                arguments: &[Arg(1), Tau, Arg(2), Rho, End(3)],
+                result: &[Label(PAIR), Tau, Rho],
+            }),
+        },
+        Entry {
+            name: b"first",
+            kind: Kind::Operator(1),
+            line: Some(Line {
+                arguments: &[Arg(1), Label(PAIR), Tau, Rho, End(2)],
+                result: &[Tau],
+            }),
+        },
+        Entry {
+            name: b"second",
+            kind: Kind::Operator(1),
+            line: Some(Line {
+                arguments: &[Arg(1), Label(PAIR), Tau, Rho, End(2)],
+                result: &[Rho],
+            }),
+        },
+    ],
+};
 
 impl Layer for Pairs {
     ghost entries = { pair_entries };
@@ -64,18 +72,18 @@ impl Layer for Pairs {
 
     // The same calls in each language: an impl for all languages would overlap with that of Layered.
     fn own_count(&self) -> u32 {
-        WORDS.len() as u32
+        OWN.words.len() as u32
     }
 
     fn own_word(&self, name: &[u8]) -> Option<Found> {
-        find_word(&WORDS, name)
+        find_word(OWN.words, name)
     }
 
     fn own_label(&self, label: u32) -> Option<&[u8]> {
-        label_word(&WORDS, label)
+        label_word(OWN.words, label)
     }
 
     fn own_line(&self, operator: u32) -> Option<Line<'_>> {
-        operator_line(&WORDS, operator)
+        operator_line(OWN.words, operator)
     }
 }
