@@ -1,7 +1,8 @@
 -- Reaching by naming, and the rows of marks that say it.
-use Rattle.std.proofs.Common.{◌≡◌, ℕ, zero, suc, ◌+◌, ◌<◌, ◌≤◌, Bool, true, false, cond, ◌&&◌, ◌||◌, ltb, ◌⊎◌, List, get_or, sym, refl, ap, ◌∙◌, subst, ap₂, inl, inr, ⊎_elim, add-one, arith}
+use Rattle.std.proofs.Common.{◌≡◌, ℕ, zero, suc, ◌+◌, ◌<◌, ◌≤◌, Bool, true, false, cond, ◌&&◌, ◌||◌, ltb, ◌⊎◌, List, length, get_or, set, sym, refl, ap, ◌∙◌, subst, ap₂, inl, inr, ⊎_elim, add-one, arith}
 use lib.Bits.{bit_or}
 use Rattle.std.proofs.Math.Bool.{or-false}
+use Rattle.std.proofs.lemmas.List.{length-set, get_or-set_same, get_or-set_other, set-get_or}
 use Rattle.std.proofs.lemmas.Bool.{cases_eq, lt-ltb, ltb-true, and_parts, and_from, or_cases, or_left, or_right}
 use Rattle.order.specs.Units.{Units, names}
 use Rattle.order.specs.Reaching.{Reaches, direct, onward, reach}
@@ -31,6 +32,44 @@ rows_more u k rows r kn n16 h e i j li lj =
     e i j (omega arith)
     ∙ ap₂ (λ a b. a || b) (h i j li lj) (ap₂ (λ a b. a && b) (h i k li kn) (h k j kn lj))
     ∙ ap (λ n. reach u n i j) (sym (add-one k))
+
+-- the rows below i are joined, the others as they were
+abbrev pub Through : List ℕ → ℕ → ℕ → List ℕ → Type 0
+Through old k i rows =
+    (length rows ≡ 16)
+    × ((a j : ℕ) → a < i → bit (get_or rows a 0) j ≡ joined old k a j)
+    × ((a : ℕ) → i ≤ a → get_or rows a 0 ≡ get_or old a 0)
+
+pub through_more : (old rows : List ℕ) (k i row : ℕ) → i < 16 → Through old k i rows
+    → ((j : ℕ) → bit row j ≡ joined old k i j) → Through old k (i + 1) (set rows i row)
+through_more old rows k i row i16 h e = (
+  length-set rows i row ∙ h.0,
+  (λ a j l. ⊎_elim
+      (λ (s : a ≡ i). subst (λ a. bit (get_or (set rows i row) a 0) j ≡ joined old k a j) (sym s)
+      (ap (λ r. bit r j) (get_or-set_same rows i row 0 (omega (arith, h.0))) ∙ e j))
+      (λ ne. ap (λ r. bit r j) (get_or-set_other rows i a row 0 ne) ∙ h.1 a j (omega arith))
+      (cases_eq a i)),
+  λ a l. get_or-set_other rows i a row 0 (λ s. omega arith) ∙ h.2 a (omega arith),
+)
+
+pub through_same : (old rows : List ℕ) (k i : ℕ) → i < 16 → Through old k i rows
+    → ((j : ℕ) → bit (get_or rows i 0) j ≡ joined old k i j) → Through old k (i + 1) rows
+through_same old rows k i i16 h e = subst (Through old k (i + 1)) (set-get_or rows i 0) (through_more old rows k i (get_or rows i 0) i16 h e)
+
+-- the row at i takes up row k where it has bit k
+pub turn_joins : (old rows rows' : List ℕ) (k i : ℕ) → i < 16 → Through old k i rows → bit (get_or rows i 0) k ≡ true
+    → rows' ≡ set rows i (bit_or (get_or rows i 0) (get_or old k 0)) → Through old k (i + 1) rows'
+turn_joins old rows rows' k i i16 h t e =
+    subst (Through old k (i + 1)) (sym e)
+    (through_more old rows k i (bit_or (get_or rows i 0) (get_or old k 0)) i16 h
+    (λ j. row_joined (get_or rows i 0) k (get_or old k 0) j t ∙ ap (λ r. bit r j || (bit r k && bit (get_or old k 0) j)) (h.2 i (omega arith))))
+
+pub turn_keeps : (old rows rows' : List ℕ) (k i : ℕ) → i < 16 → Through old k i rows → bit (get_or rows i 0) k ≡ false
+    → rows' ≡ rows → Through old k (i + 1) rows'
+turn_keeps old rows rows' k i i16 h t e =
+    subst (Through old k (i + 1)) (sym e)
+    (through_same old rows k i i16 h
+    (λ j. row_kept (get_or rows i 0) k (get_or old k 0) j t ∙ ap (λ r. bit r j || (bit r k && bit (get_or old k 0) j)) (h.2 i (omega arith))))
 
 -- the rows at first
 pub rows_none : (u : Units) (rows : List ℕ) → ((i j : ℕ) → i < u.count → bit (get_or rows i 0) j ≡ u.marks i j) → Rows u 0 rows

@@ -52,12 +52,17 @@ fn all_needs(units: &[Unit<'_>]) -> [u16; 16]
 }
 
 /// What each unit reaches, once each that reaches the unit at `k` reaches all that this one does too. 16 steps.
-fn through(rows: [u16; 16], k: usize) -> [u16; 16]
+fn through(mut rows: [u16; 16], k: usize) -> [u16; 16]
     requires { k < 16 }
     ensures { (i j : ℕ) → i < 16 → bit (slice_index result i) j ≡ joined rows k i j }
 {
     let onward = rows[k];
-    rows.map(|row| if has(row, k) { row | onward } else { row })
+    for row in rows.iter_mut() {
+        if has(*row, k) {
+            *row |= onward;
+        }
+    }
+    rows
 }
 
 impl Few<'_> {

@@ -22,7 +22,7 @@ pub fn compare_names(a: &[u8], b: &[u8]) -> Ordering
 fn name_at<'a>(units: &[Unit<'a>], place: usize) -> &'a [u8]
     ensures { result.now ≡ (seen units.now).name place }
 {
-    units.get(place).copied().unwrap_or_default().name
+    units.get(place).map_or(&[], |unit| unit.name)
 }
 
 /// Whether the unit at i comes before the one at j by name; units of one name go by their places.

@@ -1,14 +1,18 @@
-use Rattle.std.proofs.Common.{cond, get_or, ap, rules, arith, refl, ◌∙◌}
-use lib.Bits.{bit_or}
-use borrow.Author.Tests.{tests}
-use Rattle.order.specs.Seen.{bit}
-use Rattle.order.proofs.Chains.{at_map}
-use Rattle.order.proofs.Closure.{row_through}
+use Rattle.std.proofs.Common.{sym, ◌∙◌, arith}
+use Rattle.std.proofs.lemmas.List.{set-get_or}
+use Rattle.order.proofs.Closure.{turn_joins, turn_keeps}
 use Rattle.order.proofs.check.through.Goals as goal
+use Rattle.order.proofs.check.through.Goals.{then-has, else-has}
 
-pub returns : goal.returns
-returns c i j l =
-    let onward = get_or c.args.rows c.args.k 0 in
-    let h = at_map _ (λ row. cond (bit row c.args.k) (bit_or row onward) row) (λ x y q r. search (rules, tests))
-    16 0 i 0 0 c.args.rows c.map.result _ refl c.map.ensures.items.each (omega arith) (omega arith) in
-    ap (λ r. bit r j) h ∙ row_through (get_or c.args.rows i 0) c.args.k onward j
+pub loop-row-preserved : goal.loop-row-preserved
+loop-row-preserved c =
+    let rows = c.loop-row.row-items in
+    let i = c.loop-row.row-index in
+    elim c.if-has.branch [
+      | then-has w ↦
+          turn_joins c.args.rows rows c.if-has.row-items c.args.k i (omega arith) c.loop-row.invariant
+          (sym w.if-has.ensures) w.row-items-is
+      | else-has w ↦
+          turn_keeps c.args.rows rows c.if-has.row-items c.args.k i (omega arith) c.loop-row.invariant
+          (sym w.if-has.ensures) (w.row-items-is ∙ set-get_or rows i 0)
+    ]
