@@ -75,7 +75,7 @@ pub fn parse<C: Core>(
             return Err(ReadFault::Syntax(found.place));
         };
         rank = learned(symbol, found.token, rank);
-        stack.push_all(&after);
+        stack.push_all(after.as_slice());
     }
     expand(stack.pop(), Class::TextEnd)
         .map(|_| rank)

@@ -65,7 +65,7 @@ pub fn go_through<'s, C: Core>(
         }
         let new = entries.enter(met.introduced(), place.scope, from as u32, end as u32);
         let origin = Origin { frame, place, new };
-        frames.push_all(&after, met.rules(), origin);
+        frames.push_all(after.as_slice(), met.rules(), origin);
     }
     // The text's end is no token, so its note is taken by itself.
     let (last, frame) = frames.pop();

@@ -1,18 +1,17 @@
 // The grammar's table: each symbol is read by its own function.
 ghost use Rattle.std.specs.Prelude.{◌≡◌};
 ghost use Rattle.reader.specs.Grammar.{expand as expansion};
-ghost use Rattle.reader.specs.View.{row_of};
 
 use super::class::Class;
-use super::grammar::Row;
+use super::grammar::After;
 use super::symbol::Symbol;
 use super::{grammar, type_grammar};
 
 // What has to follow a token of this class where this symbol is to be read; None where the symbol cannot begin so.
 // Constant time. Two parameters and no Met: parse has no use for one, and the rows take symbol and class apart.
 // A match and no table of functions: symbols lie in lent memory as numbers.
-pub fn expand(symbol: Symbol, c: Class) -> Option<Row>
-    ensures { row_of result ≡ expansion symbol c }
+pub fn expand(symbol: Symbol, c: Class) -> Option<After>
+    ensures { result ≡ expansion symbol c }
 {
     match symbol {
         Symbol::Token(wanted) => grammar::token(wanted, c),

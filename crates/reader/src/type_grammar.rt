@@ -1,15 +1,14 @@
 // The grammar of types: what follows a type depends on where it stands. All of these take constant time.
 ghost use Rattle.std.specs.Prelude.{◌≡◌, [], ◌∷◌};
 ghost use Rattle.reader.specs.Grammar.{find, expand, after_type_rows};
-ghost use Rattle.reader.specs.View.{row_of};
 
 use super::class::Class;
-use super::grammar::{Row, items, row, specs, token, type_end};
+use super::grammar::{After, items, row, specs, token, type_end};
 use super::symbol::{Symbol, TypeContext};
 
 // what follows a type
-fn after_type(context: TypeContext, c: Class) -> Option<Row>
-    ensures { row_of result ≡ find c (after_type_rows context) }
+fn after_type(context: TypeContext, c: Class) -> Option<After>
+    ensures { result ≡ find c (after_type_rows context) }
 {
     match context {
         TypeContext::Items => items(c),
@@ -20,8 +19,8 @@ fn after_type(context: TypeContext, c: Class) -> Option<Row>
 }
 
 // a type path, a label without parts, or `(`
-pub fn type_start(context: TypeContext, c: Class) -> Option<Row>
-    ensures { row_of result ≡ expand (Symbol.«Type» context) c }
+pub fn type_start(context: TypeContext, c: Class) -> Option<After>
+    ensures { result ≡ expand (Symbol.«Type» context) c }
 {
     match c {
         Class::Lower | Class::Label0 => Some(row(&[Symbol::Labels(context)])),
@@ -39,8 +38,8 @@ pub fn type_start(context: TypeContext, c: Class) -> Option<Row>
 }
 
 // a one-part label, or what follows the type
-pub fn labels(context: TypeContext, c: Class) -> Option<Row>
-    ensures { row_of result ≡ expand (Symbol.Labels context) c }
+pub fn labels(context: TypeContext, c: Class) -> Option<After>
+    ensures { result ≡ expand (Symbol.Labels context) c }
 {
     match c {
         Class::Label1 => Some(row(&[Symbol::Labels(context)])),

@@ -2,7 +2,6 @@ use Rattle.std.proofs.Common.{◌≡◌, ℕ, ◌≤◌, true, List, [], ◌++�
 use borrow.Author.Tests.{tests}
 use Rattle.std.specs.Option.{MatchOption, IsSomeAnd, ok_or}
 use Rattle.std.proofs.lemmas.Result.{err_from_is_err_and}
-use Rattle.arrayvec.specs.ArrayVec.{ArrayVec}
 use Rattle.tokens.proofs.Walk.{advance}
 use Rattle.tokens.proofs.Turns.{Turn, turn, turn_fault, turn_end}
 use Rattle.tokens.specs.Lexer.{view, next_token, at_end}
@@ -13,7 +12,6 @@ use Rattle.reader.specs.declared.symbol.Symbol.{Symbol}
 use Rattle.reader.specs.Parsing.{start_of, outcome}
 use Rattle.reader.specs.Reading.{ending}
 use Rattle.reader.specs.Stacks.{Stacked}
-use Rattle.reader.specs.View.{row_of}
 use Rattle.reader.proofs.Checks.{sealed}
 use Rattle.reader.proofs.Turns.{begin, deep, found_proper, next_turn, refuses, no_token_lem, at_the_end}
 use Rattle.reader.proofs.parse.parse.Given as given
@@ -49,9 +47,9 @@ done g c = turn_end _ _ _ _ c.tokens.invariant.same_text c.next.ensures.steps c.
 
 -- the answer at the text's end
 last_rank :
-    (o : Option (ArrayVec Symbol)) (m : Option ℕ) (rank place : ℕ) (Told : ArrayVec Symbol → ℕ → Type 0) →
-    ((row : ArrayVec Symbol) (n : ℕ) → Told row n → n ≡ rank) → MatchOption o (m ≡ None) (λ row. IsSomeAnd m (Told row)) →
-    ok_or m (Syntax place) ≡ outcome (ending (row_of o) place rank)
+    (o : Option (List Symbol)) (m : Option ℕ) (rank place : ℕ) (Told : List Symbol → ℕ → Type 0) →
+    ((row : List Symbol) (n : ℕ) → Told row n → n ≡ rank) → MatchOption o (m ≡ None) (λ row. IsSomeAnd m (Told row)) →
+    ok_or m (Syntax place) ≡ outcome (ending o place rank)
 last_rank None m rank place Told same e = ap (λ m. ok_or m (Syntax place)) e
 last_rank (Some row) (Some n) rank place Told same e = ap Ok (same row n e)
 last_rank (Some row) None rank place Told same e = elim e [ ]
@@ -94,12 +92,12 @@ pub push_all-requires-in-tokens : goal.push_all-requires-in-tokens
 push_all-requires-in-tokens g c =
     let i = c.tokens.invariant in
     let popped = ap (λ (v : Stacked). length v.symbols) c.pop-symbol.ensures in
-    omega (arith, c.deref.ensures.1, popped, ap (λ (v : Stacked). v.room) c.pop-symbol.ensures, i.room, i.few, i.inside, c.requires.text_len_bound)
+    omega (arith, c.as_slice.ensures.fits, popped, ap (λ (v : Stacked). v.room) c.pop-symbol.ensures, i.room, i.few, i.inside, c.requires.text_len_bound)
 
 pub tokens-preserved : goal.tokens-preserved
 tokens-preserved g c =
     let i = c.tokens.invariant in
-    let row = ap Some c.deref.ensures.0 ∙ c.in-Some-expand.ensures in
+    let row = ap Some c.as_slice.ensures.value ∙ c.in-Some-expand.ensures in
     let t = here g (goal.at.tokens-preserved g c).In_ok-found in
     let a = advance c.args.text.now c.tokens.found-iterator.from c.in_ok-found.found.place c.in_ok-found.found.end (view c.in_ok-found.found.token) t.next in
     let popped = ap (λ (v : Stacked). length v.symbols) c.pop-symbol.ensures in
@@ -108,7 +106,7 @@ tokens-preserved g c =
       same_text = t.same_text;
       inside = omega (arith, t.behind, a.inside);
       room = ap (λ (v : Stacked). v.room) c.push_all-in-tokens.ensures ∙ sym (ap (λ (v : Stacked). v.room) c.pop-symbol.ensures) ∙ i.room;
-      few = omega (arith, c.deref.ensures.1, popped, pushed, length-append c.deref.result.now c.pop-symbol.new.self.symbols, i.few, t.behind, a.forward);
+      few = omega (arith, c.as_slice.ensures.fits, popped, pushed, length-append c.as_slice.result.now c.pop-symbol.new.self.symbols, i.few, t.behind, a.forward);
       goes_on =
           rw t.behind (next_turn _ _ _ _ _ _ _ _ i.goes_on i.inside c.pop-symbol.ensures _ _ _ _ _ _ _ t.next c.class_of-class.ensures
           row c.push_all-in-tokens.ensures (c.learned-rank.ensures g.C.Core.words));

@@ -98,15 +98,15 @@ pub push_all-requires-in-tokens : goal.push_all-requires-in-tokens
 push_all-requires-in-tokens g c =
     let i = c.tokens.invariant in
     let t = here g (goal.at.push_all-requires-in-tokens g c).In_ok-found in
-    let row = ap Some c.deref.ensures.0 ∙ c.in-Some-expand.ensures in
-    let deep = room_after _ _ _ _ _ _ _ _ _ _ i.pass c.requires.accepted _ _ _ c.pop-symbol.ensures _ _ _ _ t.next c.class_of-class.ensures c.deref.result.now row in
+    let row = ap Some c.as_slice.ensures.value ∙ c.in-Some-expand.ensures in
+    let deep = room_after _ _ _ _ _ _ _ _ _ _ i.pass c.requires.accepted _ _ _ c.pop-symbol.ensures _ _ _ _ t.next c.class_of-class.ensures c.as_slice.result.now row in
     omega (arith, deep, ap (λ (v : Framed). v.room) c.pop-symbol.ensures, i.frames_room, c.requires.text_len_bound)
 
 pub tokens-preserved : goal.tokens-preserved
 tokens-preserved g c =
     let i = c.tokens.invariant in
     let t = here g (goal.at.tokens-preserved g c).In_ok-found in
-    let row = ap Some c.deref.ensures.0 ∙ c.in-Some-expand.ensures in
+    let row = ap Some c.as_slice.ensures.value ∙ c.in-Some-expand.ensures in
     let symbol = c.pop-symbol.result.0 in
     let class = c.class_of-class.result in
     let name = c.part.result.now in
@@ -120,7 +120,7 @@ tokens-preserved g c =
     ] in
     record {
       same_text = t.same_text;
-      pass = rw t.behind (turned _ _ _ _ _ _ _ _ _ _ i.pass c.requires.accepted _ _ _ c.pop-symbol.ensures _ _ _ _ t.next c.class_of-class.ensures c.deref.result.now row
+      pass = rw t.behind (turned _ _ _ _ _ _ _ _ _ _ i.pass c.requires.accepted _ _ _ c.pop-symbol.ensures _ _ _ _ t.next c.class_of-class.ensures c.as_slice.result.now row
           c.place_of-place.result c.place_of-place.ensures c.span-from.result c.span-from.ensures name c.part.ensures c.enter-new.new.self.words c.enter-new.result c.enter-new.new.self.count
           c.after-firsts.result c.if-is_unit.heads.places
           (rw (sym c.introduced.ensures) c.enter-new.ensures.entered)
@@ -132,8 +132,8 @@ tokens-preserved g c =
           c.push_all-in-tokens.new.self
           (c.push_all-in-tokens.ensures
           ∙ ap (λ (rs : List Inherit). record {
-            symbols = c.deref.result.now ++ c.pop-symbol.new.self.symbols;
-            attrs = inherits c.deref.result.now rs (attr_of c.pop-symbol.result.1) (placed c.place_of-place.result) c.enter-new.result ++ c.pop-symbol.new.self.attrs;
+            symbols = c.as_slice.result.now ++ c.pop-symbol.new.self.symbols;
+            attrs = inherits c.as_slice.result.now rs (attr_of c.pop-symbol.result.1) (placed c.place_of-place.result) c.enter-new.result ++ c.pop-symbol.new.self.attrs;
             room = c.pop-symbol.new.self.room;
           }) c.rules.ensures));
       frames_room = ap (λ (v : Framed). v.room) c.push_all-in-tokens.ensures ∙ sym (ap (λ (v : Framed). v.room) c.pop-symbol.ensures) ∙ i.frames_room;
