@@ -3,7 +3,7 @@ use Rattle.std.proofs.Common.{◌≡◌, ℕ, zero, suc, ◌+◌, ◌<◌, ◌�
 use Rattle.std.proofs.Math.Path.{fun_ext}
 use Rattle.std.specs.Str.{bytes_eq}
 use Rattle.std.proofs.lemmas.Bool.{eqb-true}
-use Rattle.types.specs.Types.{Name, Ty, same}
+use Rattle.types.specs.Types.{Name, named, numbered, Ty, leaf, label0, label1, label2, same}
 use Rattle.types.proofs.Same.{same_self}
 use Rattle.rules.specs.Signatures.{Sort, same_sort, first_of}
 use Rattle.rules.proofs.Finding.{same_sort_self, same_bytes_self}
@@ -11,6 +11,13 @@ use Rattle.checker.specs.Numbered.{Sig, sig, functor_sig, Parts, no_parts, more_
 use Rattle.checker.specs.Meanings.{numbered_type, itself, bind, meant}
 use Rattle.checker.specs.Comparing.{matched, onward, asked, Matcher, match_part, match_parts, match_with, match_to}
 use Rattle.checker.specs.Failing.{Once, OnceAll, OnceIn, MatchesItself}
+
+pub meant_itself : (t : Ty) → meant itself t ≡ t
+meant_itself (leaf (named p x)) = refl
+meant_itself (leaf (numbered n)) = refl
+meant_itself (label0 l) = refl
+meant_itself (label1 l t) = ap (label1 l) (meant_itself t)
+meant_itself (label2 l t u) = ap₂ (label2 l) (meant_itself t) (meant_itself u)
 
 bind_itself : (n : ℕ) → bind n (numbered_type n) itself ≡ itself
 bind_itself n = fun_ext (λ m. go m (eqb m n) refl)

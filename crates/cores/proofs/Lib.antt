@@ -1,4 +1,5 @@
 mod Values
+mod Comparing
 mod Replies
 mod Lawful
 mod Tables

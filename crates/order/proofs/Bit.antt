@@ -1,5 +1,6 @@
 -- The bits of a number.
-use Rattle.std.proofs.Common.{◌≡◌, ℕ, ◌/◌, ◌%◌, ◌^◌, ◌<◌, ◌≤◌, min, max, Bool, true, false, ◌&&◌, ◌||◌, eqb, sym, refl, ap, ◌∙◌, ⊎_elim, arith}
+use Rattle.std.proofs.Common.{◌≡◌, ℕ, suc, ◌/◌, ◌%◌, ◌^◌, ◌<◌, ◌≤◌, min, max, Bool, true, false, ◌&&◌, ◌||◌, eqb, sym, refl, ap, ◌∙◌, ⊎_elim, div-one, arith}
+use native.Mathlib.Nat.{div-div-eq-div-mul, pow-succ'}
 use lib.Bits.{bit_and, bit_or, and_le_l}
 use Rattle.std.proofs.lemmas.Bool.{and_parts, cases_eq, eq-eqb, ne_eqb}
 use Rattle.std.proofs.lemmas.Bool.Decides.{nat_tests}
@@ -8,6 +9,12 @@ use Rattle.order.specs.Seen.{bit}
 
 pub bit_past : (m k j : ℕ) → m < 2 ^ k → k ≤ j → bit m j ≡ false
 bit_past m k j h le = ap (λ n. eqb n 1) (bit_at_above m k j h le)
+
+pub bit_zero : (m : ℕ) → bit m 0 ≡ eqb (m % 2) 1
+bit_zero m = ap (λ n. eqb (n % 2) 1) (div-one m)
+
+pub bit_suc : (m j : ℕ) → bit m (suc j) ≡ bit (m / 2) j
+bit_suc m j = ap (λ n. eqb (n % 2) 1) (ap (λ n. m / n) (pow-succ' 2 j) ∙ sym (div-div-eq-div-mul m 2 (2 ^ j)))
 
 or_digit : (x y : ℕ) → x < 2 → y < 2 → eqb (max x y) 1 ≡ (eqb x 1 || eqb y 1)
 or_digit x y hx hy = grind (arith, nat_tests)

@@ -1,5 +1,5 @@
 -- The order as it is built, turn by turn.
-use Rattle.std.proofs.Common.{◌≡◌, ℕ, zero, suc, ◌+◌, ◌<◌, ◌≤◌, Bool, false, List, [], ◌∷◌, ◌++◌, length, Some, None, Option, sym, refl, ap, ◌∙◌, ap₂, cond, ◌||◌, ⊎_elim, arith}
+use Rattle.std.proofs.Common.{◌≡◌, ℕ, zero, suc, ◌+◌, ◌-◌, ◌<◌, ◌≤◌, Bool, false, List, [], ◌∷◌, ◌++◌, length, Some, None, Option, sym, refl, ap, ◌∙◌, ap₂, cond, ◌||◌, ⊎_elim, arith}
 use mathlib.Core.Path.{fun_ext}
 use Rattle.std.proofs.lemmas.Bool.{cases_eq, eq-eqb, ne_eqb}
 use Rattle.std.specs.Option.{option_map}
@@ -42,6 +42,10 @@ unplaced_also (suc n) i placed l h = ⊎_elim here (λ ne. below ne (unplaced_al
 pub none_picked : (u : Units) (n : ℕ) (placed : ℕ → Bool) → next u placed ≡ None → picks u n placed ≡ []
 none_picked u zero placed e = refl
 none_picked u (suc n) placed e = ap (λ o. turn o (λ i. picks u n (also placed i))) e
+
+pub all_picked : (u : Units) (k : ℕ) (placed : ℕ → Bool) → u.count ≤ k → picks u (u.count - k) placed ≡ []
+all_picked u k placed h =
+    let none : u.count - k ≡ 0 = omega arith in ap (λ n. picks u n placed) none
 
 -- units are placed: their places, and what picking goes on to give
 pub record Turns (u : Units) (places : List ℕ) (placed : ℕ → Bool) : Type 0 where

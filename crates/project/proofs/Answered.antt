@@ -20,12 +20,20 @@ use Rattle.project.proofs.Changing.{last_question, drop_question}
 use Rattle.project.proofs.Meaning.{long_is}
 
 -- where the question about the lengths is answered yes, they are right
-lengths_right : {K : Type 0} (store book : ℕ) (u : Option ℕ) → Ok tt ≡ lengths_answer {K = K} store book u → right_lengths store book ≡ true
+pub lengths_right : {K : Type 0} (store book : ℕ) (u : Option ℕ) → Ok tt ≡ lengths_answer {K = K} store book u → right_lengths store book ≡ true
 lengths_right {K} store book u e = go (right_lengths store book) refl e
   where
     go : (t : Bool) → right_lengths store book ≡ t → ◌≡◌ {A = Result (Unit {0}) (Fault K)} (Ok tt) (cond t (Ok tt) (Err (about u Lengths))) → right_lengths store book ≡ true
     go true is h = is
     go false is h = cc
+
+pub lengths_wrong : {K : Type 0} (store book : ℕ) (u : Option ℕ) (x : Fault K) → Err x ≡ lengths_answer store book u →
+    (right_lengths store book ≡ false) × (x ≡ about u Lengths)
+lengths_wrong {K} store book u x e = go (right_lengths store book) refl e
+  where
+    go : (t : Bool) → right_lengths store book ≡ t → ◌≡◌ {A = Result (Unit {0}) (Fault K)} (Err x) (cond t (Ok tt) (Err (about u Lengths))) → (right_lengths store book ≡ false) × (x ≡ about u Lengths)
+    go true is h = cc
+    go false is h = (is, cc)
 
 -- a put of a text that reads is accepted where the store takes its unit
 pub put_told : {K : Type 0} (ws : List Word) (s : List ℕ) (b k : ℕ) (text : List ℕ) {h : Heading} (r : Result ℕ Refusal) →

@@ -72,9 +72,10 @@ without_unit_long k s long low =
     length_laid 0 (encode (vacated k blank (stored s))) (laid (slot k) text s)
     (omega (arith, length_encode (vacated k blank (stored s)), length_vacated k blank (stored s), mid)) ∙ mid
 
--- a put with room: the unit is among the units
+-- a put with room: it is answered with a place, and the unit is among the units
 pub put_taken : (s text : List ℕ) (k : ℕ) (h : Heading) → Headed text k h → length s ≡ 65536 → has_room (number_of h.name) (units s) ≡ true →
-    (units (store_after_put s text h.place (length h.name) h.rank) ≡ put_in (unit_for text h) (units s))
+    (put_answer s text h.place (length h.name) ≡ Ok (seat (number_of h.name) (stored s)))
+    × (units (store_after_put s text h.place (length h.name) h.rank) ≡ put_in (unit_for text h) (units s))
     × (length (store_after_put s text h.place (length h.name) h.rank) ≡ length s)
 put_taken s text k h p long fits =
     let size = length h.name in
@@ -88,17 +89,18 @@ put_taken s text k h p long fits =
     let done : store_after_put s text h.place size h.rank ≡ with_unit (seat m (stored s)) e text s =
     ap (λ (a : Result ℕ Refusal). cond (is_ok a) (with_unit (seat m (stored s)) e text s) s) answer in
     let named : unit_of_entry e text ≡ unit_for text h = ap (λ (x : ℕ). unit_of_entry (record { name = x; size = size; place = h.place; span = length text; rank = h.rank }) text) is in (
+      answer,
       ap units done ∙ put_units e text s long ok refl low ∙ ap (λ (u : StoredUnit). put_in u (units s)) named,
       ap length done ∙ with_unit_long (seat m (stored s)) e text s long low (seat_le m (stored s)) p.short,
     )
 
 -- a put without room: nothing is written
 pub put_refused : (s text : List ℕ) (k : ℕ) (h : Heading) → Headed text k h → length s ≡ 65536 → has_room (number_of h.name) (units s) ≡ false →
-    store_after_put s text h.place (length h.name) h.rank ≡ s
+    (put_answer s text h.place (length h.name) ≡ Err FullStore) × (store_after_put s text h.place (length h.name) h.rank ≡ s)
 put_refused s text k h p long lacks =
     let size = length h.name in
     let answer = last_question s text k h p long ∙ cond-false (has_room (number_of h.name) (units s)) (Ok (seat (number_of h.name) (stored s))) (Err FullStore) lacks in
-    ap (λ (a : Result ℕ Refusal). cond (is_ok a) (with_unit (seat (number_in text h.place size) (stored s)) (record_for text h.place size h.rank) text s) s) answer
+    (answer, ap (λ (a : Result ℕ Refusal). cond (is_ok a) (with_unit (seat (number_in text h.place size) (stored s)) (record_for text h.place size h.rank) text s) s) answer)
 
 -- the last question of drop
 pub drop_question : (s : List ℕ) (n : ℕ) → length s ≡ 65536 → remove_answer s n ≡ cond (stores n (units s)) (Ok (seat n (stored s))) (Err Missing)
@@ -108,14 +110,15 @@ drop_question s n long =
 
 -- a drop of a unit that is stored, and of one that is not
 pub drop_taken : (s : List ℕ) (n : ℕ) → length s ≡ 65536 → stores n (units s) ≡ true →
-    (units (store_after_remove s n) ≡ taken_out n (units s)) × (length (store_after_remove s n) ≡ length s)
+    (remove_answer s n ≡ Ok (seat n (stored s))) × (units (store_after_remove s n) ≡ taken_out n (units s)) × (length (store_after_remove s n) ≡ length s)
 drop_taken s n long here =
     let answer = drop_question s n long ∙ cond-true (stores n (units s)) (Ok (seat n (stored s))) (Err Missing) here in
     let done : store_after_remove s n ≡ without_unit (seat n (stored s)) s = ap (λ (a : Result ℕ Refusal). cond (is_ok a) (without_unit (seat n (stored s)) s) s) answer in
     let low = ltb-true (seat n (stored s)) (length (stored s)) (sym (stores_is n s) ∙ here) in
-    (ap units done ∙ remove_units n s long low, ap length done ∙ without_unit_long (seat n (stored s)) s long low)
+    (answer, ap units done ∙ remove_units n s long low, ap length done ∙ without_unit_long (seat n (stored s)) s long low)
 
-pub drop_refused : (s : List ℕ) (n : ℕ) → length s ≡ 65536 → stores n (units s) ≡ false → store_after_remove s n ≡ s
+pub drop_refused : (s : List ℕ) (n : ℕ) → length s ≡ 65536 → stores n (units s) ≡ false →
+    (remove_answer s n ≡ Err Missing) × (store_after_remove s n ≡ s)
 drop_refused s n long gone =
-    ap (λ (a : Result ℕ Refusal). cond (is_ok a) (without_unit (seat n (stored s)) s) s)
-    (drop_question s n long ∙ cond-false (stores n (units s)) (Ok (seat n (stored s))) (Err Missing) gone)
+    let answer = drop_question s n long ∙ cond-false (stores n (units s)) (Ok (seat n (stored s))) (Err Missing) gone in
+    (answer, ap (λ (a : Result ℕ Refusal). cond (is_ok a) (without_unit (seat n (stored s)) s) s) answer)

@@ -41,8 +41,8 @@ put_read {K} s text k h p long = go (has_room (number_of h.name) (units s)) refl
   where
     go : (b : Bool) → has_room (number_of h.name) (units s) ≡ b →
         Change {E = Fault K} s (store_after_put s text h.place (length h.name) h.rank) (cond b (Ok (put_in (unit_for text h) (units s))) (Err (without Full)))
-    go true e = other s (store_after_put s text h.place (length h.name) h.rank) (put_in (unit_for text h) (units s)) (put_taken s text k h p long e).0 (put_taken s text k h p long e).1
-    go false e = same s (store_after_put s text h.place (length h.name) h.rank) (without Full) (put_refused s text k h p long e)
+    go true e = other s (store_after_put s text h.place (length h.name) h.rank) (put_in (unit_for text h) (units s)) (put_taken s text k h p long e).1 (put_taken s text k h p long e).2
+    go false e = same s (store_after_put s text h.place (length h.name) h.rank) (without Full) (put_refused s text k h p long e).1
 
 pub put_change : {K : Type 0} (ws : List Word) (s : List ℕ) (b k : ℕ) (text : List ℕ) → Change {E = Fault K} s (put_store ws s b k text) (put_outcome ws s b k text)
 put_change {K} ws s b k text = go (right_lengths (length s) b) refl
@@ -59,8 +59,8 @@ drop_known : {K : Type 0} (s : List ℕ) (n : ℕ) → length s ≡ 65536 → Ch
 drop_known {K} s n long = go (stores n (units s)) refl
   where
     go : (t : Bool) → stores n (units s) ≡ t → Change {E = Fault K} s (store_after_remove s n) (cond t (Ok (taken_out n (units s))) (Err (about (Some n) NotStored)))
-    go true e = other s (store_after_remove s n) (taken_out n (units s)) (drop_taken s n long e).0 (drop_taken s n long e).1
-    go false e = same s (store_after_remove s n) (about (Some n) NotStored) (drop_refused s n long e)
+    go true e = other s (store_after_remove s n) (taken_out n (units s)) (drop_taken s n long e).1 (drop_taken s n long e).2
+    go false e = same s (store_after_remove s n) (about (Some n) NotStored) (drop_refused s n long e).1
 
 pub drop_change : {K : Type 0} (s : List ℕ) (b : ℕ) (name : List ℕ) → Change {E = Fault K} s (drop_store s b name) (drop_outcome s b name)
 drop_change {K} s b name = go (right_lengths (length s) b) refl

@@ -1,7 +1,8 @@
 -- What heads name, head by head.
-use Rattle.std.proofs.Common.{◌≡◌, ℕ, ◌+◌, ◌<◌, Bool, cond, ◌||◌, List, [], ◌∷◌, ◌++◌, length, get_or, take, Some, None, Option, sym, refl, ap, ◌∙◌, subst, ap₂, arith}
+use Rattle.std.proofs.Common.{◌≡◌, ℕ, ◌+◌, ◌%◌, ◌^◌, ◌<◌, ◌≤◌, Bool, false, cond, ◌||◌, eqb, List, [], ◌∷◌, ◌++◌, length, get_or, take, Some, None, Option, sym, refl, ap, ◌∙◌, subst, ap₂, arith}
+use native.Mathlib.Nat.{zero-div}
 use Rattle.std.proofs.Math.Bool.{or_assoc}
-use Rattle.std.proofs.lemmas.List.{take_more}
+use Rattle.std.proofs.lemmas.List.{take_more, take_all}
 use Rattle.store.specs.declared.entry.Entry.{Entry}
 use Rattle.order.specs.Seen.{bit}
 use Rattle.rules.specs.Signatures.{first_of}
@@ -18,6 +19,13 @@ some_last test (b ∷ l) a = ap (λ (t : Bool). test b || t) (some_last test l a
 first_or_lem : (o : Option ℕ) (told : Bool) (p : ℕ) → first_of o (cond told (Some p) None) ≡ first_or o told p
 first_or_lem None told p = refl
 first_or_lem (Some q) told p = refl
+
+-- no heads
+pub naming_none : (es : List Entry) (text : List ℕ) → NamingOf es text [] (record { needs = 0; missing = None })
+naming_none es text = record { needs = λ j h. zero_bit j; missing = refl }
+  where
+    zero_bit : (j : ℕ) → bit 0 j ≡ false
+    zero_bit j = ap (λ (n : ℕ). eqb (n % 2) 1) (zero-div (2 ^ j))
 
 -- one head more
 pub naming_more : (es : List Entry) (text heads : List ℕ) (i : ℕ) (f r : Named) (o : Option ℕ) → i < length heads → NamingOf es text (take i heads) f →
@@ -36,3 +44,7 @@ naming_more es text heads i f r o h n is marks first =
           ∙ sym (first_or_lem (first_where (λ q. is_none (seat_of es (head_number text q))) front) (is_none (seat_of es (head_number text p))) p)
           ∙ sym (first_append (λ q. is_none (seat_of es (head_number text q))) front (p ∷ []));
     })
+
+-- all of them
+pub naming_all : (es : List Entry) (text heads : List ℕ) (i : ℕ) (f : Named) → length heads ≤ i → NamingOf es text (take i heads) f → NamingOf es text heads f
+naming_all es text heads i f h n = subst (λ (ps : List ℕ). NamingOf es text ps f) (take_all i heads h) n

@@ -1,5 +1,5 @@
--- What holds of every row of the grammar: where the text's end may be read, and which symbols lead to no rank.
-use Rattle.std.proofs.Common.{◌≡◌, Bool, true, false, cond, eqb, List, [], ◌∷◌, ◌++◌, Some, sym, refl, ap, ◌∙◌, subst}
+-- What holds of every row of the grammar: where the text's end may be read, which symbols lead to no rank, how many symbols follow.
+use Rattle.std.proofs.Common.{◌≡◌, ◌≤◌, Bool, true, false, cond, eqb, leb, List, [], ◌∷◌, ◌++◌, length, Some, sym, refl, ap, ◌∙◌, subst, leb-true}
 use Rattle.std.proofs.lemmas.List.{append-nil}
 use Rattle.std.specs.List.{list_all}
 use Rattle.reader.specs.declared.class.Class.{Class}
@@ -172,3 +172,8 @@ quiet_after s c α q e =
 pub quiet_append : (α σ : List Symbol) → all_quiet α → all_quiet σ → all_quiet (α ++ σ)
 quiet_append [] σ a b = b
 quiet_append (s ∷ α) σ a b = (a.0, quiet_append α σ a.1 b)
+
+-- ---- how many symbols follow
+
+pub short : (s : Symbol) (c : Class) (α : List Symbol) → expand s c ≡ Some α → length α ≤ 5
+short s c α e = leb-true (length α) 5 (after_every (λ s c α. leb (length α) 5) refl s c α e)

@@ -72,7 +72,7 @@ module _ {T : Type 0} (print : T → List Token) (notes : T → List Note) (star
   meaning_inside (Err e) h = tt
 
 -- what an answer is, with what it means
-record HeadsTold {T : Type 0} (print : T → List Token) (notes : T → List Note) (start : Start) (ws : List Word) (text : List ℕ) (room : ℕ)
+pub record HeadsTold {T : Type 0} (print : T → List Token) (notes : T → List Note) (start : Start) (ws : List Word) (text : List ℕ) (room : ℕ)
     (r : Result (List ℕ) ReadFault) : Type 0 where
   pub answer : r ≡ heads_answer start ws text room
   pub meaning : HeadsMeaning print notes ws text room r
@@ -85,13 +85,13 @@ heads_told print notes start ws text room r h e =
     let m = subst (HeadsMeaning print notes ws text room) (sym e) (heads_mean print notes start ws text room h) in
     record { answer = e; meaning = m; inside = meaning_inside print notes start ws text room r m }
 
-unit_heads_told : (ws : List Word) (text : List ℕ) (room : ℕ) (r : Result (List ℕ) ReadFault) → r ≡ heads_answer Start.«Unit» ws text room →
+pub unit_heads_told : (ws : List Word) (text : List ℕ) (room : ℕ) (r : Result (List ℕ) ReadFault) → r ≡ heads_answer Start.«Unit» ws text room →
     HeadsTold print_unit notes_unit Start.«Unit» ws text room r
 unit_heads_told ws text room r e =
     heads_told print_unit notes_unit Start.«Unit» ws text room r (unit_told ws text (reads (start_of Start.«Unit») (stream_of ws text) default_rank)
     (units_are_read (stream_of ws text))) e
 
-signature_heads_told : (ws : List Word) (text : List ℕ) (room : ℕ) (r : Result (List ℕ) ReadFault) → r ≡ heads_answer Start.Signature ws text room →
+pub signature_heads_told : (ws : List Word) (text : List ℕ) (room : ℕ) (r : Result (List ℕ) ReadFault) → r ≡ heads_answer Start.Signature ws text room →
     HeadsTold print_signature_text notes_signature_text Start.Signature ws text room r
 signature_heads_told ws text room r e =
     heads_told print_signature_text notes_signature_text Start.Signature ws text room r

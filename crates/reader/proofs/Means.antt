@@ -241,6 +241,13 @@ asked_in room len rest e h =
     ap (λ (b : Bool). cond b (cond (leb len text_limit) rest (Err TooLong)) (Err Scratch)) (eq-eqb room scratch_words e)
     ∙ ap (λ (b : Bool). cond b rest (Err TooLong)) (le-leb len text_limit h)
 
+pub outcome_err : (o : Outcome) (e : ReadFault) → Err e ≡ outcome o → (p : ℕ) × (o ≡ refused p) × (e ≡ Syntax p)
+outcome_err (accepted n) e h = cc
+outcome_err (refused p) e h = (p, refl, err_same h)
+  where
+    err_same : {e : ReadFault} → ◌≡◌ {A = Result ℕ ReadFault} (Err e) (Err (Syntax p)) → e ≡ Syntax p
+    err_same h = cc
+
 pub outcome_ok : (o : Outcome) (n : ℕ) → Ok n ≡ outcome o → o ≡ accepted n
 outcome_ok (accepted m) n h = ap accepted (sym (ok_same h))
   where

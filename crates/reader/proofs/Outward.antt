@@ -10,6 +10,26 @@ use Rattle.reader.specs.declared.row.Scope.{Scope as Outward}
 use Rattle.reader.specs.Scopes.{Binding, Scope, same_sort, Resolution, component, bound, nowhere, further, sought, seek, declares, is_declared, is_itself, is_component, is_sought}
 use Rattle.reader.specs.Rows.{entry_at, parent_at, scope_from, scope_of, binding_of, entries_of, is_nowhere}
 
+-- ---- one entry
+
+pub declares_itself : (s : Sort) (x : Name) (b : Binder) (y : Name) (rest : Bool) → is_itself b ≡ true → declares s x b y rest ≡ false
+declares_itself s x Binder.Itself y rest e = refl
+declares_itself s x (Binder.Component t) y rest e = cc
+declares_itself s x Binder.Parameter y rest e = cc
+declares_itself s x Binder.Variable y rest e = cc
+
+pub declares_here : (s : Sort) (x : Name) (b : Binder) (y : Name) (rest : Bool) → is_component s x b y ≡ true → declares s x b y rest ≡ true
+declares_here s x Binder.Itself y rest e = cc
+declares_here s x (Binder.Component t) y rest e = ap (λ (c : Bool). c || rest) e
+declares_here s x Binder.Parameter y rest e = cc
+declares_here s x Binder.Variable y rest e = cc
+
+pub declares_later : (s : Sort) (x : Name) (b : Binder) (y : Name) (rest : Bool) → is_itself b ≡ false → is_component s x b y ≡ false → declares s x b y rest ≡ rest
+declares_later s x Binder.Itself y rest h e = cc
+declares_later s x (Binder.Component t) y rest h e = ap (λ (c : Bool). c || rest) e
+declares_later s x Binder.Parameter y rest h e = refl
+declares_later s x Binder.Variable y rest h e = refl
+
 -- ---- the answers as searches through the entries
 
 nowhere_further : (r : Resolution) → is_nowhere (further r) ≡ is_nowhere r
@@ -34,6 +54,12 @@ nowhere_past s x (Binder.Component t) y rest = go (same_sort s t && bytes_eq x y
     go false = refl
 nowhere_past s x Binder.Parameter y rest = past_bound (same_sort s Sort.Module && bytes_eq x y) rest
 nowhere_past s x Binder.Variable y rest = past_bound (same_sort s Sort.Value && bytes_eq x y) rest
+
+pub sought_here : (s : Sort) (x : Name) (b : Binder) (y : Name) (rest : Resolution) → is_sought s x b y ≡ true → is_nowhere (sought s x b y rest) ≡ false
+sought_here s x b y rest e = sym (nowhere_past s x b y rest) ∙ ap (λ (c : Bool). not c && is_nowhere rest) e
+
+pub sought_later : (s : Sort) (x : Name) (b : Binder) (y : Name) (rest : Resolution) → is_sought s x b y ≡ false → is_nowhere (sought s x b y rest) ≡ is_nowhere rest
+sought_later s x b y rest e = sym (nowhere_past s x b y rest) ∙ ap (λ (c : Bool). not c && is_nowhere rest) e
 
 -- a name is nowhere where no entry is what it is sought for
 pub nowhere_by_any : (s : Sort) (x : Name) (scope : Scope) → not (list_any (λ (b : Binding). is_sought s x b.binder b.name) scope) ≡ is_nowhere (seek s x scope)

@@ -157,8 +157,14 @@ type_lift_out θ = square on_type type_comp (lift θ) out out θ (lift_after_out
 pub type_under_out : (q : ModulePath) (θ : Substitution) (t : Ty) → on_type (under q θ) (on_type out t) ≡ on_type θ t
 type_under_out q θ t = type_comp (under q θ) out t ∙ ap (λ f. on_type f t) (under_after_out q θ)
 
+pub type_reading_lift : (q : ModulePath) (θ : Substitution) (t : Ty) → on_type (reading q) (on_type (lift θ) t) ≡ on_type (under q θ) t
+type_reading_lift q θ t = type_comp (reading q) (lift θ) t ∙ ap (λ f. on_type f t) (reading_lift q θ)
+
 pub type_reading_out : (q : ModulePath) (t : Ty) → on_type (reading q) (on_type out t) ≡ t
 type_reading_out q t = type_comp (reading q) out t ∙ (ap (λ f. on_type f t) (reading_out q) ∙ type_id t)
+
+pub type_fresh : (t : Ty) → on_type (reading innermost) (on_type (lift out) t) ≡ t
+type_fresh t = type_comp (reading innermost) (lift out) t ∙ (ap (λ f. on_type f t) reading_fresh ∙ type_id t)
 
 -- these laws for signatures
 pub signature_reading_on : (θ : Substitution) (p : ModulePath) (s : Signature) → on_signature θ (on_signature (reading p) s) ≡ on_signature (reading (on_path θ p)) (on_signature (lift θ) s)
@@ -170,15 +176,30 @@ signature_lift_out θ = square on_signature signature_comp (lift θ) out out θ 
 pub signature_under_out : (q : ModulePath) (θ : Substitution) (s : Signature) → on_signature (under q θ) (on_signature out s) ≡ on_signature θ s
 signature_under_out q θ s = signature_comp (under q θ) out s ∙ ap (λ f. on_signature f s) (under_after_out q θ)
 
+pub signature_reading_lift : (q : ModulePath) (θ : Substitution) (s : Signature) → on_signature (reading q) (on_signature (lift θ) s) ≡ on_signature (under q θ) s
+signature_reading_lift q θ s = signature_comp (reading q) (lift θ) s ∙ ap (λ f. on_signature f s) (reading_lift q θ)
+
 pub signature_reading_out : (q : ModulePath) (s : Signature) → on_signature (reading q) (on_signature out s) ≡ s
 signature_reading_out q s = signature_comp (reading q) out s ∙ (ap (λ f. on_signature f s) (reading_out q) ∙ signature_id s)
+
+pub signature_fresh : (s : Signature) → on_signature (reading innermost) (on_signature (lift out) s) ≡ s
+signature_fresh s = signature_comp (reading innermost) (lift out) s ∙ (ap (λ f. on_signature f s) reading_fresh ∙ signature_id s)
 
 -- these laws for components
 pub components_reading_on : (θ : Substitution) (p : ModulePath) (c : Components) → on_components θ (on_components (reading p) c) ≡ on_components (reading (on_path θ p)) (on_components (lift θ) c)
 components_reading_on θ p = square on_components components_comp θ (reading p) (reading (on_path θ p)) (lift θ) (reading_after θ p)
 
+pub components_lift_out : (θ : Substitution) (c : Components) → on_components (lift θ) (on_components out c) ≡ on_components out (on_components θ c)
+components_lift_out θ = square on_components components_comp (lift θ) out out θ (lift_after_out θ)
+
+pub components_under_out : (q : ModulePath) (θ : Substitution) (c : Components) → on_components (under q θ) (on_components out c) ≡ on_components θ c
+components_under_out q θ c = components_comp (under q θ) out c ∙ ap (λ f. on_components f c) (under_after_out q θ)
+
 pub components_reading_lift : (q : ModulePath) (θ : Substitution) (c : Components) → on_components (reading q) (on_components (lift θ) c) ≡ on_components (under q θ) c
 components_reading_lift q θ c = components_comp (reading q) (lift θ) c ∙ ap (λ f. on_components f c) (reading_lift q θ)
+
+pub components_reading_out : (q : ModulePath) (c : Components) → on_components (reading q) (on_components out c) ≡ c
+components_reading_out q c = components_comp (reading q) out c ∙ (ap (λ f. on_components f c) (reading_out q) ∙ components_id c)
 
 pub components_fresh : (c : Components) → on_components (reading innermost) (on_components (lift out) c) ≡ c
 components_fresh c = components_comp (reading innermost) (lift out) c ∙ (ap (λ f. on_components f c) reading_fresh ∙ components_id c)
@@ -187,11 +208,20 @@ components_fresh c = components_comp (reading innermost) (lift out) c ∙ (ap (�
 pub declaration_reading_on : (θ : Substitution) (p : ModulePath) (d : Declaration) → on_declaration θ (on_declaration (reading p) d) ≡ on_declaration (reading (on_path θ p)) (on_declaration (lift θ) d)
 declaration_reading_on θ p = square on_declaration declaration_comp θ (reading p) (reading (on_path θ p)) (lift θ) (reading_after θ p)
 
+pub declaration_lift_out : (θ : Substitution) (d : Declaration) → on_declaration (lift θ) (on_declaration out d) ≡ on_declaration out (on_declaration θ d)
+declaration_lift_out θ = square on_declaration declaration_comp (lift θ) out out θ (lift_after_out θ)
+
+pub declaration_under_out : (q : ModulePath) (θ : Substitution) (d : Declaration) → on_declaration (under q θ) (on_declaration out d) ≡ on_declaration θ d
+declaration_under_out q θ d = declaration_comp (under q θ) out d ∙ ap (λ f. on_declaration f d) (under_after_out q θ)
+
 pub declaration_reading_lift : (q : ModulePath) (θ : Substitution) (d : Declaration) → on_declaration (reading q) (on_declaration (lift θ) d) ≡ on_declaration (under q θ) d
 declaration_reading_lift q θ d = declaration_comp (reading q) (lift θ) d ∙ ap (λ f. on_declaration f d) (reading_lift q θ)
 
 pub declaration_fresh : (d : Declaration) → on_declaration (reading innermost) (on_declaration (lift out) d) ≡ d
 declaration_fresh d = declaration_comp (reading innermost) (lift out) d ∙ (ap (λ f. on_declaration f d) reading_fresh ∙ declaration_id d)
+
+pub declaration_reading_out : (q : ModulePath) (d : Declaration) → on_declaration (reading q) (on_declaration out d) ≡ d
+declaration_reading_out q d = declaration_comp (reading q) out d ∙ (ap (λ f. on_declaration f d) (reading_out q) ∙ declaration_id d)
 
 -- a substitution keeps sorts, and so what is found
 pub sort_on : (θ : Substitution) (d : Declaration) → sort_of (on_declaration θ d) ≡ sort_of d

@@ -48,8 +48,17 @@ gather_spread_mod (suc k) n =
 pub gather_spread : (k n : ℕ) → n < 256 ^ k → gather (spread k n) ≡ n
 gather_spread k n h = gather_spread_mod k n ∙ mod-eq_of_lt h
 
+-- one digit more, where at most k digits are there
+pub next_below : (v b i : ℕ) → v < 256 ^ i → b < 256 → v * 256 + b < 256 ^ (i + 1)
+next_below v b i h small = rw (add-one i, pow-suc 256 i) (omega arith)
+
 pub below_power : (v i k : ℕ) → v < 256 ^ i → i ≤ k → v < 256 ^ k
 below_power v i k h le = omega (arith, pow-le-pow_right {n = 256} (lit< tt) le)
+
+-- one digit more is written in front of those that stand
+pub spread_more : (k n : ℕ) → spread (k + 1) n ≡ ((n / 256 ^ k) % 256) ∷ spread k n
+unfolding spread
+spread_more k n = rw (add-one k)
 
 -- the digits are the bytes that the library writes, the highest first
 pub high_first : (k n : ℕ) → bytes_high_first k n ≡ spread k n

@@ -1,11 +1,20 @@
 -- Bytes laid over others.
-use Rattle.std.proofs.Common.{◌≡◌, ℕ, suc, ◌+◌, ◌-◌, ◌/◌, ◌%◌, ◌<◌, ◌≤◌, List, [], ◌∷◌, ◌++◌, length, take, drop, set, sym, refl, ap, ◌∙◌, add-one, arith}
-use Rattle.std.proofs.lemmas.List.{append_assoc, length-append, length-take-le, length-drop, take-append-drop, take_at, drop_at, take-append-le, drop-append-le, take-take, drop-drop, drop-take, set_split}
+use Rattle.std.proofs.Common.{◌≡◌, ℕ, suc, ◌+◌, ◌-◌, ◌/◌, ◌%◌, ◌<◌, ◌≤◌, List, [], ◌∷◌, ◌++◌, length, get_or, take, drop, set, sym, refl, ap, ◌∙◌, add-one, arith}
+use Rattle.std.proofs.lemmas.List.{append_assoc, length-append, length-take-le, length-drop, take-append-drop, take_more, take_at, drop_at, set_at, take-append-le, drop-append-le, take-take, drop-drop, drop-take, set_split, get_or-drop}
 use Rattle.store.specs.Numbers.{laid, spread}
 
 -- no bytes change nothing
 pub laid_none : (p : ℕ) (s : List ℕ) → laid p [] s ≡ s
 laid_none p s = ap (λ n. take p s ++ drop n s) (let e : p + 0 ≡ p = omega arith in e) ∙ take-append-drop p s
+
+-- a byte written right before the bytes that are there
+pub laid_more : (q r b : ℕ) (bs s : List ℕ) → r ≡ q + 1 → r + length bs ≤ length s → set (laid r bs s) q b ≡ laid q (b ∷ bs) s
+laid_more q r b bs s e h =
+    ap (λ r. set (laid r bs s) q b) e
+    ∙ ap (λ t. set (t ++ (bs ++ drop (q + 1 + length bs) s)) q b) (take_more s q 0 (omega arith))
+    ∙ ap (λ t. set t q b) (append_assoc (take q s) (get_or s q 0 ∷ []) (bs ++ drop (q + 1 + length bs) s))
+    ∙ set_at (take q s) (get_or s q 0) (bs ++ drop (q + 1 + length bs) s) b q (length-take-le q s (omega arith))
+    ∙ ap (λ n. take q s ++ (b ∷ (bs ++ drop n s))) (let f : q + 1 + length bs ≡ q + suc (length bs) = omega arith in f)
 
 -- one byte written at a place
 pub laid_one : (q n : ℕ) (s : List ℕ) → n < 256 → q < length s → set s q n ≡ laid q (spread 1 n) s
@@ -72,3 +81,18 @@ laid_next p a b s h =
 -- the same, with the place where the first bytes end
 pub laid_then : (p q : ℕ) (a b s : List ℕ) → p ≤ length s → p + length a ≡ q → laid q b (laid p a s) ≡ laid p (a ++ b) s
 laid_then p q a b s h e = ap (λ n. laid n b (laid p a s)) (sym e) ∙ laid_next p a b s h
+
+-- a byte written right behind others
+pub laid_push : (p q b : ℕ) (a s : List ℕ) → p + length a ≡ q → q < length s → set (laid p a s) q b ≡ laid p (a ++ (b ∷ [])) s
+laid_push p q b a s e h =
+    let long = length_laid p a s (omega arith) in
+    set_split (laid p a s) q b (omega arith)
+    ∙ ap (λ n. take q (laid p a s) ++ (b ∷ drop n (laid p a s))) (sym (add-one q))
+    ∙ laid_then p q a (b ∷ []) s (omega arith) e
+
+-- a byte behind them
+pub get_d_laid_behind : (p r : ℕ) (a s : List ℕ) → p + length a ≤ r → p ≤ length s → get_or (laid p a s) r 0 ≡ get_or s r 0
+get_d_laid_behind p r a s h l =
+    let same : r + 0 ≡ r = omega arith in
+    ap (λ n. get_or (laid p a s) n 0) (sym same) ∙ sym (get_or-drop r (laid p a s) 0 0)
+    ∙ ap (λ t. get_or t 0 0) (laid_behind p r a s h l) ∙ get_or-drop r s 0 0 ∙ ap (λ n. get_or s n 0) same

@@ -1,13 +1,21 @@
 -- The place of a name among records, and lists changed at one place.
-use Rattle.std.proofs.Common.{◌≡◌, ℕ, zero, suc, ◌+◌, ◌-◌, ◌<◌, ◌≤◌, max, Bool, true, false, cond, not, ◌&&◌, ◌||◌, eqb, ltb, List, [], ◌∷◌, ◌++◌, length, get_or, take, set, sym, refl, ap, ◌∙◌, ⊎_elim, Some, None, unwrap_or, arith}
-use Rattle.std.proofs.lemmas.List.{set_split, take_more_set, take_more, take-take, take_all, drop_all, length-take-le, get_or-take}
-use Rattle.std.proofs.lemmas.Bool.{cases_lt, lt-ltb, le-ltb, ltb-true, ltb-false}
+use Rattle.std.proofs.Common.{◌≡◌, ℕ, zero, suc, ◌+◌, ◌-◌, ◌<◌, ◌≤◌, max, Bool, true, false, cond, not, ◌&&◌, ◌||◌, eqb, ltb, List, [], ◌∷◌, ◌++◌, length, get_or, take, drop, set, sym, refl, ap, ◌∙◌, ⊎_elim, Some, None, unwrap_or, arith}
+use Rattle.std.proofs.lemmas.List.{at_drop_more, set_split, take_more_set, take_more, take-take, take_all, drop_all, length-take-le, get_or-take}
+use Rattle.std.proofs.lemmas.Bool.{eq-eqb, ne_eqb, cond-true, cond-false, and_left, not_from_true, not_from_false, cases_lt, lt-ltb, le-ltb, ltb-true, ltb-false}
 use Rattle.std.proofs.lemmas.List.Recursion.{is_position_or_len, same_from_clauses}
 use Rattle.std.proofs.lemmas.List.Sums.{prefix_len-le-length}
 use Rattle.std.specs.List.{position, position_or_len, list_any}
 use Rattle.std.proofs.lemmas.Option.{cond_some}
 use Rattle.store.specs.declared.entry.Entry.{Entry}
-use Rattle.store.specs.Entries.{seat, found, entered, vacated, clash, absent}
+use Rattle.store.specs.Entries.{seat, found, entered, vacated, clash, absent, well, sound}
+
+pub seat_hit : (n i : ℕ) (es : List Entry) (d : Entry) → i < length es → (get_or es i d).name ≡ n → seat n (drop i es) ≡ 0
+seat_hit n i es d h e =
+    at_drop_more (seat n) es i d h ∙ cond-true (eqb (get_or es i d).name n) 0 (suc (seat n (drop (i + 1) es))) (eq-eqb (get_or es i d).name n e)
+
+pub seat_miss : (n i : ℕ) (es : List Entry) (d : Entry) → i < length es → ((get_or es i d).name ≡ n → ⊥) → seat n (drop i es) ≡ suc (seat n (drop (i + 1) es))
+seat_miss n i es d h e =
+    at_drop_more (seat n) es i d h ∙ cond-false (eqb (get_or es i d).name n) 0 (suc (seat n (drop (i + 1) es))) (ne_eqb (get_or es i d).name n e)
 
 pub seat_le : (n : ℕ) (es : List Entry) → seat n es ≤ length es
 seat_le n [] = omega arith
@@ -54,6 +62,16 @@ take_vacated n i d xs h l =
 pub last_split : {X : Type 0} (d : X) (xs : List X) → 0 < length xs → take (length xs - 1) xs ++ (get_or xs (length xs - 1) d ∷ []) ≡ xs
 last_split d xs h =
     sym (take_more xs (length xs - 1) d (omega arith)) ∙ take_all (length xs - 1 + 1) xs (omega arith)
+
+-- records that pass or fail a test, one by one
+pub absent_hit : (n i : ℕ) (es : List Entry) (d : Entry) → i < length es → clash (get_or es i d).name n ≡ true → absent n (drop i es) ≡ false
+absent_hit n i es d h e = at_drop_more (absent n) es i d h ∙ and_left (not (clash (get_or es i d).name n)) (absent n (drop (i + 1) es)) (not_from_true (clash (get_or es i d).name n) e)
+
+pub absent_miss : (n i : ℕ) (es : List Entry) (d : Entry) → i < length es → clash (get_or es i d).name n ≡ false → absent n (drop i es) ≡ absent n (drop (i + 1) es)
+absent_miss n i es d h e = at_drop_more (absent n) es i d h ∙ ap (λ t. t && absent n (drop (i + 1) es)) (not_from_false (clash (get_or es i d).name n) e)
+
+pub well_step : (i : ℕ) (es : List Entry) (d : Entry) → i < length es → well (drop i es) ≡ (sound (get_or es i d) && (absent (get_or es i d).name (drop (i + 1) es) && well (drop (i + 1) es)))
+well_step i es d h = at_drop_more well es i d h
 
 -- the same, in the words of the library
 pub position_or : {X : Type 0} (p : X → Bool) (xs : List X) (k : ℕ) → length xs ≡ k → unwrap_or (position p xs) k ≡ position_or_len p xs

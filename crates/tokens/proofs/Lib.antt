@@ -1,6 +1,7 @@
 pub mod Complete
 pub mod Decimals
 pub mod Fronts
+pub mod Marks
 pub mod Runs
 pub mod Sound
 pub mod Steps

@@ -21,19 +21,19 @@ none_left text bytes from blanks s empty =
     let long = ap length s.left ∙ length-drop blanks (drop from text) in
     only_blanks from (drop from text) (omega (arith, long, s.run))
 
-some_left : (text bytes : List ℕ) (from blanks : ℕ) → Skipped text from blanks bytes → 0 < length bytes → next_token text from ≡ found (from + blanks) (token_front bytes)
+pub some_left : (text bytes : List ℕ) (from blanks : ℕ) → Skipped text from blanks bytes → 0 < length bytes → next_token text from ≡ found (from + blanks) (token_front bytes)
 some_left text bytes from blanks s more =
     let long = ap length s.left ∙ length-drop blanks (drop from text) in
     behind_blanks from (drop from text) (omega (arith, long, s.run)) ∙ rw (← s.run, ← s.left) refl
 
 -- the places up to the end of the text
-reached : (text bytes : List ℕ) (from blanks : ℕ) → Skipped text from blanks bytes → 0 < length bytes → from + blanks + length bytes ≡ length text
+pub reached : (text bytes : List ℕ) (from blanks : ℕ) → Skipped text from blanks bytes → 0 < length bytes → from + blanks + length bytes ≡ length text
 reached text bytes from blanks s more =
     let long = ap length s.left ∙ length-drop blanks (drop from text) in
     omega (arith, long, length-drop from text)
 
 -- a token and what is left behind it are as long as the bytes
-taken : (bytes rest : List ℕ) (p : Piece) → token_front bytes ≡ piece p → rest ≡ drop (length (written p)) bytes → length (written p) + length rest ≡ length bytes
+pub taken : (bytes rest : List ℕ) (p : Piece) → token_front bytes ≡ piece p → rest ≡ drop (length (written p)) bytes → length (written p) + length rest ≡ length bytes
 taken bytes rest p e is =
     let whole = (token_stands bytes p e).whole in
     sym (length-append (written p) rest) ∙ ap (λ l. length (written p ++ l)) is ∙ ap length whole

@@ -1,10 +1,10 @@
 -- The loops that find the end of a type and test for whole types.
-use Rattle.std.proofs.Common.{◌≡◌, ℕ, suc, ◌+◌, ◌-◌, ◌<◌, ◌≤◌, Bool, true, false, List, [], ◌∷◌, ◌++◌, length, get_or, take, drop, Some, None, sym, refl, ap, ◌∙◌, subst, arith, length-drop, take-append-drop, reverse}
+use Rattle.std.proofs.Common.{◌≡◌, ℕ, zero, suc, ◌+◌, ◌-◌, ◌<◌, ◌≤◌, Bool, true, false, List, [], ◌∷◌, ◌++◌, length, get_or, take, drop, Some, None, Option, sym, refl, ap, ◌∙◌, subst, arith, length-drop, take-append-drop, reverse}
 use Rattle.std.proofs.lemmas.Bool.Decides.{nat_tests}
-use Rattle.std.proofs.lemmas.List.{drop_more, length-take-le, length-reverse, get_or-reverse, get_or_default}
+use Rattle.std.proofs.lemmas.List.{drop_more, drop_all, length-take-le, length-reverse, get_or-reverse, get_or_default}
 use Rattle.std.specs.Option.{option_map}
 use Rattle.types.specs.Types.{Ty}
-use Rattle.types.specs.Words.{node, node_word, grown, types, encode_all, whole, parts, types_with, span}
+use Rattle.types.specs.Words.{node, node_word, grown, types, encode_all, whole, wanting, parts, types_with, span}
 use Rattle.types.specs.declared.words.Node.{Node}
 use Rattle.types.specs.declared.words.Node.TheVariants.{Leaf as LeafNode, Label0, Label1, Label2}
 use Rattle.types.proofs.Spelling.{node_word_node, whole_is, is_whole, span_zero}
@@ -13,10 +13,55 @@ use Rattle.types.proofs.Spelling.{node_word_node, whole_is, is_whole, span_zero}
 abbrev pub Ending : List ℕ → ℕ → ℕ → Type 0
 Ending ws i wanted = option_map (λ n. i + n) (span (drop i ws) wanted) ≡ span ws 1
 
+pub ending_start : (ws : List ℕ) → Ending ws 0 1
+ending_start ws = go (span ws 1)
+  where
+    go : (o : Option ℕ) → option_map (λ n. 0 + n) o ≡ o
+    go None = refl
+    go (Some x) = let e : 0 + x ≡ x = omega arith in ap Some e
+
 pub ending_none : (ws : List ℕ) (i wanted : ℕ) → Ending ws i wanted → wanted ≡ 0 → Some i ≡ span ws 1
 ending_none ws i wanted e z =
     let f : i ≡ i + 0 = omega arith in
     ap Some f ∙ ap (option_map (λ n. i + n)) (sym (span_zero (drop i ws)) ∙ ap (span (drop i ws)) (sym z)) ∙ e
+
+wanting_least : (d : Node) (k : ℕ) → k ≤ wanting d k
+wanting_least (LeafNode n) k = omega arith
+wanting_least (Label0 n) k = omega arith
+wanting_least (Label1 n) k = omega arith
+wanting_least (Label2 n) k = omega arith
+
+span_lacks : (ws : List ℕ) (k : ℕ) → length ws < k → span ws k ≡ None
+span_lacks [] zero h = absurd (omega arith)
+span_lacks [] (suc k) h = refl
+span_lacks (w ∷ ws) zero h = absurd (omega arith)
+span_lacks (w ∷ ws) (suc k) h = let g = wanting_least (node w) k in ap (option_map (λ n. suc n)) (span_lacks ws (wanting (node w) k) (omega arith))
+
+pub ending_lacks : (ws : List ℕ) (i wanted : ℕ) → Ending ws i wanted → length ws - i < wanted → None ≡ span ws 1
+ending_lacks ws i wanted e h =
+    let l = length-drop i ws in
+    sym (ap (option_map (λ n. i + n)) (span_lacks (drop i ws) wanted (omega arith))) ∙ e
+
+pub ending_more : (ws : List ℕ) (i wanted next : ℕ) → Ending ws i wanted → i < length ws → 0 < wanted →
+    next ≡ wanting (node (get_or ws i 0)) (wanted - 1) → Ending ws (i + 1) next
+ending_more ws i zero next e h w is = absurd (omega arith)
+ending_more ws i (suc k) next e h w is =
+    let d = drop_more ws i 0 h in
+    let q : suc k - 1 ≡ k = omega arith in
+    let f : span (drop i ws) (suc k) ≡ option_map (λ n. suc n) (span (drop (i + 1) ws) next) =
+    ap (λ (xs : List ℕ). span xs (suc k)) d
+    ∙ ap (λ (m : ℕ). option_map (λ n. suc n) (span (drop (i + 1) ws) m)) (sym (is ∙ ap (wanting (node (get_or ws i 0))) q)) in
+    go (span (drop (i + 1) ws) next) (sym (ap (option_map (λ n. i + n)) f) ∙ e)
+  where
+    go : (o : Option ℕ) → option_map (λ n. i + n) (option_map (λ n. suc n) o) ≡ span ws 1 → option_map (λ n. (i + 1) + n) o ≡ span ws 1
+    go None g = g
+    go (Some x) g = let r : (i + 1) + x ≡ i + suc x = omega arith in ap Some r ∙ g
+
+pub wanting_most : (d : Node) (k : ℕ) → wanting d k ≤ k + 2
+wanting_most (LeafNode n) k = omega arith
+wanting_most (Label0 n) k = omega arith
+wanting_most (Label1 n) k = omega arith
+wanting_most (Label2 n) k = omega arith
 
 grown_whole : (d : Node) (ts : List Ty) → parts d ≤ length ts → encode_all (grown d ts) ≡ node_word d ∷ encode_all ts
 grown_whole (LeafNode n) ts h = refl
@@ -69,6 +114,11 @@ with_none (Label2 l) k e = grind (arith, nat_tests)
 -- the words from i on are whole types, so many of them
 abbrev pub WholeFrom : List ℕ → ℕ → ℕ → Type 0
 WholeFrom ws i count = (encode_all (types (drop i ws)) ≡ drop i ws) × (count ≡ length (types (drop i ws))) × (count + i ≤ length ws)
+
+pub whole_start : (ws : List ℕ) → WholeFrom ws (length ws) 0
+whole_start ws =
+    let e = drop_all (length ws) ws (omega arith) in
+    ((cc), (cc), omega arith)
 
 pub whole_more : (ws : List ℕ) (i count next : ℕ) (d : Node) → WholeFrom ws (i + 1) count → i < length ws → get_or ws i 0 < 4294967296 →
     d ≡ node (get_or ws i 0) → types_with d count ≡ Some next → WholeFrom ws i next

@@ -1,4 +1,5 @@
 pub mod Same
 pub mod Spelling
 pub mod Ends
+pub mod Copies
 pub mod Encodings

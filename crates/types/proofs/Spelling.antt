@@ -69,6 +69,9 @@ whole_is ws = (bytes_eq-Decides (encode_all (types ws)) ws).0
 pub is_whole : (ws : List ℕ) → encode_all (types ws) ≡ ws → whole ws ≡ true
 is_whole ws = (bytes_eq-Decides (encode_all (types ws)) ws).1
 
+pub whole_encode_all : (ts : List Ty) → AllSpelled ts → whole (encode_all ts) ≡ true
+whole_encode_all ts s = is_whole (encode_all ts) (ap encode_all (types_encode_all ts s))
+
 -- different types have different words
 pub encode_injective : (t u : Ty) → Spelled t → Spelled u → encode t ≡ encode u → t ≡ u
 encode_injective t u p q e =
